@@ -1,0 +1,21 @@
+-- What the questions asked so far have shown: the statements that code may assume which asks the next.
+use Prim.Native.Nat.{ℕ, _≤_, _<_}
+use mathlib.Core.List.{List}
+use lib.ListN.{length}
+use Rattle.plan.specs.declared.Table.{Table}
+use Rattle.plan.specs.Image.{trailerBytes, tableEnd, rows, cycleTicks, precision}
+use Rattle.plan.specs.Reading.{Names, InRange}
+
+-- 1 and 3: the trailer and every table lie in the image
+pub record InImage (s : List ℕ) : Type 0 where
+  pub trailer : trailerBytes ≤ length s
+  pub ends : (t : Table) → tableEnd s t ≤ length s
+
+-- 1 to 6: besides, H and P are in range, row numbers name rows, and values are in range
+pub record Sound (s : List ℕ) : Type 0 where
+  pub inside : InImage s
+  pub cycle : 1 ≤ cycleTicks s
+  pub cycle-most : cycleTicks s ≤ 1000000
+  pub clocks : precision s ≤ 10000
+  pub names : (t : Table) (r : ℕ) → r < rows s t → Names s t r
+  pub ranges : (t : Table) (r : ℕ) → r < rows s t → InRange s t r
