@@ -1,0 +1,48 @@
+use native.Mathlib.Omega.{arith}
+use Rattle.plan.specs.Image.{shape, frame}
+use Rattle.tables.proofs.frame_at.Statement.{statement}
+use Rattle.tables.proofs.frame_at.Tie as tie
+use Rattle.tables.proofs.frame_at.Reads as reads
+use Rattle.tables.proofs.frame_at.Lts as lts
+use Rattle.tables.proofs.field_of.Reads as field-of-reads
+
+-- src/lib.rt:250:21
+field-of-requires : tie.Need-field-of-requires
+unfolding shape
+field-of-requires c κs = let p = c .before .pre in (p .0, (p .1, omega arith))
+
+-- src/lib.rt:251:18
+field-of-requires-2 : tie.Need-field-of-requires-2
+unfolding shape
+field-of-requires-2 c κs = let p = c .before .before .pre in (p .0, (p .1, omega arith))
+
+-- src/lib.rt:252:18
+field-of-requires-3 : tie.Need-field-of-requires-3
+unfolding shape
+field-of-requires-3 c κs = let p = c .before .before .before .pre in (p .0, (p .1, omega arith))
+
+-- src/lib.rt:253:19
+field-of-requires-4 : tie.Need-field-of-requires-4
+unfolding shape
+field-of-requires-4 c κs = let p = c .before .before .before .before .pre in (p .0, (p .1, omega arith))
+
+-- src/lib.rt:254:20
+field-of-requires-5 : tie.Need-field-of-requires-5
+unfolding shape
+field-of-requires-5 c κs = let p = c .before .before .before .before .before .pre in (p .0, (p .1, omega arith))
+
+-- src/lib.rt:244:5
+returns : tie.Need-returns
+unfolding frame
+returns c = cc
+
+pub frame-at-spec : {M : Type 1} → statement M
+frame-at-spec =
+    tie.close
+    (tie.spec
+    field-of-requires
+    field-of-requires-2
+    field-of-requires-3
+    field-of-requires-4
+    field-of-requires-5
+    returns)
