@@ -1,45 +1,138 @@
 // The words of the plan paper: what its questions say of a task, a window, a piece, a stream and a frame, read off the image.
-// Each gives what the definition of its name in Questions.antt gives, for a plan that has passed questions 1 to 6.
+// Each gives what the definition of that name gives (Questions.antt), for an image that has passed questions 1 to 6.
 ghost use mathlib.Core.Path.{_≡_};
 ghost use Prim.Native.Nat.{_<_};
+ghost use Rattle.plan.specs.declared.Table.the-variants.{Tasks, Windows, Pieces, Streams, Frames};
 ghost use Rattle.plan.specs.Image.{rows};
 ghost use Rattle.plan.specs.Held.{Sound};
-ghost use Rattle.plan.specs.Questions.{coreOf, nodeOf, jobs, windowCore, windowEnd, charge, pieceCore, pieceEnd, switchTicks};
+ghost use Rattle.plan.specs.Questions.{coreOf, nodeOf, jobs, release, due, switchTicks, windowCore, windowEnd, charge, pieceCore, pieceEnd};
 ghost use Rattle.plan.specs.Questions.{streamPeriod, limit, sendTicks, frameEnd, across};
-use plan::Buffer;
-use plan::Core;
-use plan::Frame;
-use plan::Link;
-use plan::Piece;
-use plan::Stream;
-use plan::Task;
-use plan::Vcpu;
-use plan::Window;
+use tables::core_at;
+use tables::cycle_ticks;
+use tables::frame_at;
+use tables::link_at;
+use tables::piece_at;
+use tables::precision_ticks;
+use tables::stream_at;
+use tables::task_at;
+use tables::vcpu_at;
+use tables::window_at;
 
 // A task's core.
 pub fn core_of(image: &[u8], task: u32) -> u32
-    requires { ⌜ Sound (now image) ⌝ }
-    requires { ⌜ task < rows (now image) Table.Tasks ⌝ }
+    requires { ⌜ Sound (now image) × (task < rows (now image) Tasks) ⌝ }
     ensures { λ r. ⌜ r ≡ coreOf (now (image .entry)) task ⌝ }
 {
-    let vcpu = Task::at(image, task).vcpu;
-    Vcpu::at(image, vcpu).core
+    let vcpu = task_at(image, task).vcpu;
+    vcpu_at(image, vcpu).core
 }
 
 // The node of a task's core.
 pub fn node_of(image: &[u8], task: u32) -> u32
-    requires { ⌜ Sound (now image) ⌝ }
-    requires { ⌜ task < rows (now image) Table.Tasks ⌝ }
+    requires { ⌜ Sound (now image) × (task < rows (now image) Tasks) ⌝ }
     ensures { λ r. ⌜ r ≡ nodeOf (now (image .entry)) task ⌝ }
 {
-    Core::at(image, core_of(image, task)).node
+    core_at(image, core_of(image, task)).node
 }
 
 // How many jobs a task has in a cycle.
 pub fn jobs_of(image: &[u8], task: u32) -> u32
-    requires { ⌜ Sound (now image) ⌝ }
-    requires { ⌜ task < rows (now image) Table.Tasks ⌝ }
+    requires { ⌜ Sound (now image) × (task < rows (now image) Tasks) ⌝ }
     ensures { λ r. ⌜ r ≡ jobs (now (image .entry)) task ⌝ }
 {
-    plan::cycle_ticks(image) / Task::at(image, task).period
+    cycle_ticks(image) / task_at(image, task).period
+}
+
+// The first ticks of each of a task's pieces, which the task switch takes.
+pub fn switch_ticks(image: &[u8], task: u32) -> u32
+    requires { ⌜ Sound (now image) × (task < rows (now image) Tasks) ⌝ }
+    ensures { λ r. ⌜ r ≡ switchTicks (now (image .entry)) task ⌝ }
+{
+    core_at(image, core_of(image, task)).d
+}
+
+// A window's core.
+pub fn window_core(image: &[u8], window: u32) -> u32
+    requires { ⌜ Sound (now image) × (window < rows (now image) Windows) ⌝ }
+    ensures { λ r. ⌜ r ≡ windowCore (now (image .entry)) window ⌝ }
+{
+    let vcpu = window_at(image, window).vcpu;
+    vcpu_at(image, vcpu).core
+}
+
+pub fn window_end(image: &[u8], window: u32) -> u64
+    requires { ⌜ Sound (now image) × (window < rows (now image) Windows) ⌝ }
+    ensures { λ r. ⌜ r ≡ windowEnd (now (image .entry)) window ⌝ }
+{
+    let w = window_at(image, window);
+    w.start as u64 + w.length as u64
+}
+
+// A window's first ticks, which the VCPU switch takes.
+pub fn charge_of(image: &[u8], window: u32) -> u32
+    requires { ⌜ Sound (now image) × (window < rows (now image) Windows) ⌝ }
+    ensures { λ r. ⌜ r ≡ charge (now (image .entry)) window ⌝ }
+{
+    core_at(image, window_core(image, window)).v
+}
+
+// A piece's core.
+pub fn piece_core(image: &[u8], piece: u32) -> u32
+    requires { ⌜ Sound (now image) × (piece < rows (now image) Pieces) ⌝ }
+    ensures { λ r. ⌜ r ≡ pieceCore (now (image .entry)) piece ⌝ }
+{
+    core_of(image, piece_at(image, piece).task)
+}
+
+pub fn piece_end(image: &[u8], piece: u32) -> u64
+    requires { ⌜ Sound (now image) × (piece < rows (now image) Pieces) ⌝ }
+    ensures { λ r. ⌜ r ≡ pieceEnd (now (image .entry)) piece ⌝ }
+{
+    let p = piece_at(image, piece);
+    p.start as u64 + p.length as u64
+}
+
+// A stream's period: its sender's.
+pub fn stream_period(image: &[u8], stream: u32) -> u32
+    requires { ⌜ Sound (now image) × (stream < rows (now image) Streams) ⌝ }
+    ensures { λ r. ⌜ r ≡ streamPeriod (now (image .entry)) stream ⌝ }
+{
+    task_at(image, stream_at(image, stream).sender).period
+}
+
+// A stream's latency limit; an E of 0 stands for the sender's period.
+pub fn limit_of(image: &[u8], stream: u32) -> u32
+    requires { ⌜ Sound (now image) × (stream < rows (now image) Streams) ⌝ }
+    ensures { λ r. ⌜ r ≡ limit (now (image .entry)) stream ⌝ }
+{
+    let latency = stream_at(image, stream).latency;
+    if latency == 0 {
+        stream_period(image, stream)
+    } else {
+        latency
+    }
+}
+
+// The ticks for which a frame is sent.
+pub fn send_ticks(image: &[u8], frame: u32) -> u32
+    requires { ⌜ Sound (now image) × (frame < rows (now image) Frames) ⌝ }
+    ensures { λ r. ⌜ r ≡ sendTicks (now (image .entry)) frame ⌝ }
+{
+    stream_at(image, frame_at(image, frame).stream).wire
+}
+
+pub fn frame_end(image: &[u8], frame: u32) -> u64
+    requires { ⌜ Sound (now image) × (frame < rows (now image) Frames) ⌝ }
+    ensures { λ r. ⌜ r ≡ frameEnd (now (image .entry)) frame ⌝ }
+{
+    frame_at(image, frame).start as u64 + send_ticks(image, frame) as u64
+}
+
+// When a frame is across its link by any node's clock: its end, the link's delay and P.
+pub fn across_at(image: &[u8], frame: u32) -> u64
+    requires { ⌜ Sound (now image) × (frame < rows (now image) Frames) ⌝ }
+    ensures { λ r. ⌜ r ≡ across (now (image .entry)) frame ⌝ }
+{
+    let link = frame_at(image, frame).link;
+    frame_end(image, frame) + link_at(image, link).delay as u64 + precision_ticks(image) as u64
 }

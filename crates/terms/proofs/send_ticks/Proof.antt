@@ -1,0 +1,25 @@
+use Rattle.plan.specs.declared.Table.the-variants.{Frames}
+use Rattle.plan.specs.Questions.{sendTicks}
+use borrow.Author.Needs.{needs}
+use Rattle.terms.proofs.send_ticks.Statement.{statement}
+use Rattle.terms.proofs.send_ticks.Tie as tie
+use Rattle.terms.proofs.send_ticks.Reads as reads
+use Rattle.terms.proofs.send_ticks.Lts as lts
+use Rattle.tables.proofs.frame_at.Reads as frame-at-reads
+use Rattle.tables.proofs.stream_at.Reads as stream-at-reads
+
+-- src/lib.rt:121:22
+frame-at-requires : tie.Need-frame-at-requires
+frame-at-requires c κs = search needs
+
+-- src/lib.rt:121:5
+stream-at-requires : tie.Need-stream-at-requires
+stream-at-requires c κs = let p = c .before .before .pre in (p .0 .inside, rw (c .frame-at .ensures) (p .0 .names Frames (c .before .before .args .frame) (p .1) .0))
+
+-- src/lib.rt:117:1
+returns : tie.Need-returns
+unfolding sendTicks
+returns c = cc
+
+pub send-ticks-spec : {M : Type 1} → statement M
+send-ticks-spec = tie.close (tie.spec frame-at-requires stream-at-requires returns)
