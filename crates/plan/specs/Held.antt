@@ -3,12 +3,17 @@ use Prim.Native.Nat.{ℕ, _≤_, _<_}
 use mathlib.Core.List.{List}
 use lib.ListN.{length}
 use Rattle.plan.specs.declared.Table.{Table}
-use Rattle.plan.specs.Image.{trailerBytes, tableEnd, rows, cycleTicks, precision}
+use Rattle.plan.specs.Image.{shape, trailerBytes, tableEnd, rows, cycleTicks, precision}
 use Rattle.plan.specs.Reading.{Names, InRange}
+use Rattle.plan.specs.Search.{firstNo}
+use Rattle.plan.specs.Questions.{Question, questionAt}
+use Rattle.plan.specs.declared.Found.the-variants.{Nothing}
+use mathlib.Core.Path.{_≡_}
 
--- 1 and 3: the trailer and every table lie in the image
+-- 1 and 3: the trailer and every table lie in the image, and row counts are in bounds
 pub record InImage (s : List ℕ) : Type 0 where
   pub trailer : trailerBytes ≤ length s
+  pub counts : (t : Table) → rows s t ≤ shape t .most
   pub ends : (t : Table) → tableEnd s t ≤ length s
 
 -- 1 to 6: besides, H and P are in range, row numbers name rows, and values are in range
@@ -19,3 +24,7 @@ pub record Sound (s : List ℕ) : Type 0 where
   pub clocks : precision s ≤ 10000
   pub names : (t : Table) (r : ℕ) → r < rows s t → Names s t r
   pub ranges : (t : Table) (r : ℕ) → r < rows s t → InRange s t r
+
+-- no row says no to any of the first i questions of a list
+abbrev pub Passed : List Question → ℕ → Type 0
+Passed qs i = (j : ℕ) → j < i → firstNo (questionAt qs j .many) (questionAt qs j .ok) ≡ Nothing

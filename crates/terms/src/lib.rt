@@ -43,6 +43,23 @@ pub fn jobs_of(image: &[u8], task: u32) -> u32
     cycle_ticks(image) / task_at(image, task).period
 }
 
+// The tick at which a job is released.
+pub fn release_of(image: &[u8], task: u32, job: u32) -> u64
+    requires { ⌜ Sound (now image) × (task < rows (now image) Tasks) ⌝ }
+    ensures { λ r. ⌜ r ≡ release (now (image .entry)) task job ⌝ }
+{
+    job as u64 * task_at(image, task).period as u64
+}
+
+// The tick before which a job has to end.
+pub fn due_of(image: &[u8], task: u32, job: u32) -> u64
+    requires { ⌜ Sound (now image) × (task < rows (now image) Tasks) ⌝ }
+    ensures { λ r. ⌜ r ≡ due (now (image .entry)) task job ⌝ }
+{
+    let t = task_at(image, task);
+    job as u64 * t.period as u64 + t.deadline as u64
+}
+
 // The first ticks of each of a task's pieces, which the task switch takes.
 pub fn switch_ticks(image: &[u8], task: u32) -> u32
     requires { ⌜ Sound (now image) × (task < rows (now image) Tasks) ⌝ }

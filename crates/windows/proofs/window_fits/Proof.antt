@@ -1,0 +1,46 @@
+use Rattle.plan.specs.Questions.{windowFits}
+use borrow.Author.Needs.{needs}
+use Rattle.windows.proofs.window_fits.Statement.{statement}
+use Rattle.windows.proofs.window_fits.Tie as tie
+use Rattle.windows.proofs.window_fits.Reads as reads
+use Rattle.windows.proofs.window_fits.Lts as lts
+use Rattle.tables.proofs.cycle_ticks.Reads as cycle-ticks-reads
+use Rattle.tables.proofs.window_at.Reads as window-at-reads
+use Rattle.terms.proofs.charge_of.Reads as charge-of-reads
+use Rattle.terms.proofs.window_end.Reads as window-end-reads
+
+-- src/lib.rt:27:16
+charge-of-requires : tie.Need-charge-of-requires
+charge-of-requires c κs = search needs
+
+-- src/lib.rt:27:43
+window-at-requires : tie.Need-window-at-requires
+window-at-requires c κs = search needs
+
+-- src/lib.rt:28:16
+window-end-requires : tie.Need-window-end-requires
+window-end-requires c κs = search needs
+
+-- src/lib.rt:28:45
+cycle-ticks-requires : tie.Need-cycle-ticks-requires
+cycle-ticks-requires c κs = search needs
+
+-- src/lib.rt:28:45
+cast-ends : tie.Need-cast-ends
+cast-ends c = search needs
+
+-- src/lib.rt:23:1
+returns : tie.Need-returns
+unfolding windowFits
+returns c = cc
+
+pub window-fits-spec : {M : Type 1} → statement M
+window-fits-spec =
+    tie.close
+    (tie.spec
+    charge-of-requires
+    window-at-requires
+    window-end-requires
+    cycle-ticks-requires
+    cast-ends
+    returns)
