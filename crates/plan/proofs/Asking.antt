@@ -92,3 +92,26 @@ passed-of (q ∷ qs) g e = go (firstNo (q .many) (q .ok)) refl (λ k. passed-of 
     go : (f : Found) → firstNo (q .many) (q .ok) ≡ f → (answerTo qs .number ≡ 0 → Passed qs (length qs)) → Passed (q ∷ qs) (suc (length qs))
     go Nothing d k = each d (k (sym (ap (λ (a : Answer). a .number) (no-row q qs d)) ∙ e))
     go (At r) d k = absurd (let z : q .asked ≡ 0 = sym (ap (λ (a : Answer). a .number) (a-row q qs r d)) ∙ e in let w = g .0 in omega arith)
+
+-- what holds of each of k numbers from a on
+abbrev pub Each : (ℕ → Type 0) → ℕ → ℕ → Type 0
+Each P a zero = Unit {0}
+Each P a (suc k) = P a × Each P (suc a) k
+
+pub between : (P : ℕ → Type 0) (a k : ℕ) → Each P a k → (n : ℕ) → a ≤ n → n < a + k → P n
+between P a zero h n l m = absurd (let z : n < a = omega arith in omega arith)
+between P a (suc k) h n l m = pick (eq-or-lt-of-le l) (λ q. between P (suc a) k (h .1) n q (omega arith))
+  where
+    pick : (a ≡ n) ⊎ (a < n) → (suc a ≤ n → P n) → P n
+    pick (inl q) k' = subst P q (h .0)
+    pick (inr q) k' = k' q
+
+-- the answer of a loop that stops at row r of question i
+pub stopped-at : (qs : List Question) (i r n t : ℕ) → Passed qs i → i < length qs → firstNo (questionAt qs i .many) (questionAt qs i .ok) ≡ At r
+    → questionAt qs i .asked ≡ n → questionAt qs i .table ≡ t → record { number = n; table = t; row = r } ≡ answerTo qs
+unfolding named
+stopped-at qs i r n t h l e a b = sym (passed-stops qs i r h l e ∙ (rw (a, b) refl))
+
+-- the list is through
+pub passed-end : (qs : List Question) (i : ℕ) → i ≡ length qs → Passed qs i → answerTo qs ≡ accepted
+passed-end qs i e h = passed-all qs (subst (Passed qs) e h)

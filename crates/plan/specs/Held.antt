@@ -7,6 +7,7 @@ use Rattle.plan.specs.Image.{shape, trailerBytes, tableEnd, rows, cycleT
 use Rattle.plan.specs.Reading.{Names, InRange}
 use Rattle.plan.specs.Search.{firstNo}
 use Rattle.plan.specs.Questions.{Question, questionAt}
+use Rattle.plan.specs.declared.Found.{Found}
 use Rattle.plan.specs.declared.Found.the-variants.{Nothing}
 use mathlib.Core.Path.{_≡_}
 
@@ -25,6 +26,10 @@ pub record Sound (s : List ℕ) : Type 0 where
   pub names : (t : Table) (r : ℕ) → r < rows s t → Names s t r
   pub ranges : (t : Table) (r : ℕ) → r < rows s t → InRange s t r
 
+-- the lowest row that says no to a question
+abbrev pub refusing : Question → Found
+refusing q = firstNo (q .many) (q .ok)
+
 -- no row says no to any of the first i questions of a list
 abbrev pub Passed : List Question → ℕ → Type 0
-Passed qs i = (j : ℕ) → j < i → firstNo (questionAt qs j .many) (questionAt qs j .ok) ≡ Nothing
+Passed qs i = (j : ℕ) → j < i → refusing (questionAt qs j) ≡ Nothing

@@ -1,14 +1,20 @@
 // Questions 7 to 13 (paper 01, "The questions"): windows, tasks and pieces.
 ghost use mathlib.Core.Path.{_≡_};
-ghost use Prim.Native.Nat.{_<_, _≤_};
+ghost use Prim.Native.Nat.{_-_, _<_, _≤_};
 ghost use Rattle.plan.specs.declared.Table.the-variants.{Tasks, Windows, Pieces};
 ghost use Rattle.plan.specs.Image.{rows};
 ghost use Rattle.plan.specs.Held.{Sound};
-ghost use Rattle.plan.specs.Questions.{windowFits, windowApart, windowClear, maskAllows, pieceFits, inside, pieceInside, pieceApart, pieceClear};
+ghost use Rattle.plan.specs.Questions.{windowFits, windowApart, windowClear, maskAllows, pieceFits, inside, pieceInside, pieceApart, pieceClear, jobBudget, taskBudget};
+ghost use Rattle.plan.specs.Questions.{questionAt, pieceQuestions, answerTo};
+ghost use Rattle.plan.specs.Held.{refusing};
+ghost use Rattle.windows.specs.Loads.{shareOf, loadOf, tableAsked};
+use plan::Answer;
+use plan::Found;
 use plan::Table;
 use tables::cycle_ticks;
 use tables::piece_at;
 use tables::rows_of;
+use tables::shape_of;
 use tables::task_at;
 use tables::window_at;
 use terms::charge_of;
@@ -132,4 +138,141 @@ fn piece_clear(image: &[u8], piece: u32) -> bool
         lower += 1;
     }
     true
+}
+
+// A job's pieces: the sum of their lengths, and how many there are.
+struct Load {
+    ticks: u64,
+    count: u64,
+}
+
+// A piece's share of a job's load: its length and 1, or nothing where it is another job's.
+struct Share {
+    ticks: u32,
+    count: u32,
+}
+
+fn share_of(image: &[u8], task: u32, job: u32, piece: u32) -> Share
+    requires { ⌜ Sound (now image) × (piece < rows (now image) Pieces) ⌝ }
+    ensures { λ r. ⌜ r ≡ shareOf (now (image .entry)) task job piece ⌝ }
+{
+    let p = piece_at(image, piece);
+    if (p.task == task) & (p.job == job) {
+        Share {
+            ticks: p.length,
+            count: 1,
+        }
+    } else {
+        Share { ticks: 0, count: 0 }
+    }
+}
+
+fn job_load(image: &[u8], task: u32, job: u32) -> Load
+    requires { ⌜ Sound (now image) ⌝ }
+    ensures { λ r. ⌜ r ≡ loadOf (now (image .entry)) task job ⌝ }
+{
+    let pieces = rows_of(image, Table::Pieces);
+    let mut ticks: u64 = 0;
+    let mut count: u64 = 0;
+    let mut piece: u32 = 0;
+    while piece < pieces {
+        let share = share_of(image, task, job, piece);
+        ticks += share.ticks as u64;
+        count += share.count as u64;
+        piece += 1;
+    }
+    Load { ticks, count }
+}
+
+// 13: do the job's n pieces sum to C + n×d?
+fn job_budget(image: &[u8], task: u32, job: u32) -> bool
+    requires { ⌜ Sound (now image) × (task < rows (now image) Tasks) ⌝ }
+    ensures { λ r. ⌜ r ≡ jobBudget (now (image .entry)) task job ⌝ }
+{
+    let load = job_load(image, task, job);
+    load.ticks == task_at(image, task).budget as u64 + load.count * switch_ticks(image, task) as u64
+}
+
+// 13: does every job of the task? A job without a piece does not, so the search ends there.
+fn task_budget(image: &[u8], task: u32) -> bool
+    requires { ⌜ Sound (now image) × (task < rows (now image) Tasks) ⌝ }
+    ensures { λ r. ⌜ r ≡ taskBudget (now (image .entry)) task ⌝ }
+{
+    let jobs = jobs_of(image, task);
+    let mut job: u32 = 0;
+    while job < jobs {
+        if !job_budget(image, task, job) {
+            return false;
+        }
+        job += 1;
+    }
+    true
+}
+
+// Does a row pass question 7 to 13?
+fn passes(image: &[u8], number: u32, row: u32) -> bool
+    requires { ⌜ Sound (now image) × ((7 ≤ number) × (number ≤ 13)) ⌝ }
+    requires { ⌜ row < questionAt (pieceQuestions (now image)) (number - 7) .many ⌝ }
+    ensures { λ r. ⌜ r ≡ questionAt (pieceQuestions (now (image .entry))) (number - 7) .ok row ⌝ }
+{
+    match number {
+        7 => window_fits(image, row),
+        8 => window_clear(image, row),
+        9 => mask_allows(image, row),
+        10 => piece_fits(image, row),
+        11 => piece_inside(image, row),
+        12 => piece_clear(image, row),
+        _ => task_budget(image, row),
+    }
+}
+
+// The table that a question asks over.
+fn table_of(number: u32) -> Table
+    ensures { λ r. ⌜ r ≡ tableAsked number ⌝ }
+{
+    match number {
+        7 => Table::Windows,
+        8 => Table::Windows,
+        9 => Table::Tasks,
+        13 => Table::Tasks,
+        _ => Table::Pieces,
+    }
+}
+
+// The lowest row that says no.
+fn first_no(image: &[u8], number: u32) -> Found
+    requires { ⌜ Sound (now image) × ((7 ≤ number) × (number ≤ 13)) ⌝ }
+    ensures { λ r. ⌜ r ≡ refusing (questionAt (pieceQuestions (now (image .entry))) (number - 7)) ⌝ }
+{
+    let rows = rows_of(image, table_of(number));
+    let mut row: u32 = 0;
+    while row < rows {
+        if !passes(image, number, row) {
+            return Found::At(row);
+        }
+        row += 1;
+    }
+    Found::Nothing
+}
+
+// Questions 7 to 13, in this order.
+pub fn ask(image: &[u8]) -> Answer
+    requires { ⌜ Sound (now image) ⌝ }
+    ensures { λ r. ⌜ r ≡ answerTo (pieceQuestions (now (image .entry))) ⌝ }
+{
+    let mut number: u32 = 7;
+    while number <= 13 {
+        match first_no(image, number) {
+            Found::At(row) => {
+                return Answer {
+                    number,
+                    table: shape_of(table_of(number)).number,
+                    row,
+                };
+            }
+            Found::Nothing => {}
+        }
+        number += 1;
+    }
+    plan::accepted()
 }
