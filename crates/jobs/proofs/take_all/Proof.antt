@@ -22,15 +22,15 @@ abbrev μ-loop : tie.MeasureT-loop
 
 -- src/lib.rt:96:9
 rows-of-requires : tie.Need-rows-of-requires Inv-loop μ-loop
-rows-of-requires c κs = ?
+rows-of-requires c κs = c .before .before .pre .0 .0 .inside .trailer
 
 -- src/lib.rt:98:5
 loop-holds : tie.Need-loop-holds Inv-loop μ-loop
-loop-holds c = ?
+loop-holds c = (omega arith, refl, c .before .before .before .pre .1)
 
 -- src/lib.rt:99:9
 take-in-requires : tie.Need-take-in-requires Inv-loop μ-loop
-take-in-requires c κs = ?
+take-in-requires c κs = let p = c .before .before .before .before .before .before .pre in let g = c .before .before .before .rows-of .ensures in ((p .0 .0, (p .0 .1, omega arith)), c .before .before .loop .inv .2)
 
 -- src/lib.rt:100:9
 add-piece : tie.Need-add-piece Inv-loop μ-loop
@@ -42,7 +42,7 @@ loop-less c = omega arith
 
 -- src/lib.rt:98:5
 loop-again : tie.Need-loop-again Inv-loop μ-loop
-loop-again c = ?
+loop-again c = let l = c .before .before .before .before .before .loop in let t = c .before .before .take-in in (omega arith, t .kept .1 .0 ∙ l .inv .1, t .ensures)
 
 -- src/lib.rt:91:1
 same-length : tie.Need-same-length Inv-loop μ-loop
@@ -50,7 +50,7 @@ same-length c = c .before .loop .inv .1
 
 -- src/lib.rt:91:1
 returns : tie.Need-returns Inv-loop μ-loop
-returns c = ?
+returns c = let l = c .before .loop in let p = c .before .before .before .before .before .pre in let s = c .before .before .before .before .before .args .image .now in let g = c .before .before .rows-of .ensures in let e : l .piece ≡ rows s Pieces = omega arith in timed s (l .times) (all-placed s (p .0 .0) (p .0 .1)) (subst (Gathered s (l .times)) e (l .inv .2))
 
 pub take-all-spec : {M : Type 1} → statement M
 take-all-spec =
