@@ -1,0 +1,149 @@
+// The dispatcher (paper 01, "Dispatch" and questions 27 and 28): a lane's state moves one tick along its table.
+ghost use mathlib.Core.Path.{_≡_};
+ghost use mathlib.Core.Bool.{false};
+ghost use Prim.Native.Nat.{_<_};
+ghost use lib.ListN.{getD};
+ghost use Rattle.plan.specs.Dispatch.{step};
+ghost use Rattle.steps.specs.Lookups.{lookup, fitsTable, endsCycle, endsCalendar, entryAfter, stateAfter, decided};
+use plan::LaneState;
+use plan::Stepped;
+
+// What a step looks up in its lane's table: whether the table lies inside the words, H, n, the current entry's words, and the
+// first tick of the entry after it. A word past the end counts as 0.
+pub struct Lookup {
+    pub inside: bool,
+    pub ticks: u32,
+    pub entries: u32,
+    pub begin: u32,
+    pub kind: u32,
+    pub row: u32,
+    pub next: u32,
+}
+
+// 27: does the state fit its table?
+fn fits_table(table: Lookup, state: LaneState) -> bool
+    ensures { λ r. ⌜ r ≡ fitsTable table state ⌝ }
+{
+    let exists = state.entry < table.entries;
+    let in_cycle = state.tick < table.ticks;
+    let begun = table.begin <= state.tick;
+    let last = table.entries as u64 <= state.entry as u64 + 1;
+    let before_next = state.tick < table.next;
+    table.inside & exists & in_cycle & begun & (last | before_next)
+}
+
+// Is this the last tick of the cycle?
+fn ends_cycle(table: Lookup, state: LaneState) -> bool
+    ensures { λ r. ⌜ r ≡ endsCycle table state ⌝ }
+{
+    state.tick as u64 + 1 == table.ticks as u64
+}
+
+// 28: is it the last tick of the last cycle that the calendar has?
+fn ends_calendar(table: Lookup, state: LaneState) -> bool
+    ensures { λ r. ⌜ r ≡ endsCalendar table state ⌝ }
+{
+    let last_cycle = state.cycle == 18446744073709551615;
+    ends_cycle(table, state) & last_cycle
+}
+
+// The entry at the next tick of the cycle.
+fn entry_after(table: Lookup, state: LaneState) -> u32
+    requires { ⌜ (state .entry < table .entries) × (state .tick < table .ticks) ⌝ }
+    ensures { λ r. ⌜ r ≡ entryAfter table state ⌝ }
+{
+    let follows = state.entry + 1 < table.entries;
+    let reached = table.next <= state.tick + 1;
+    if follows & reached {
+        state.entry + 1
+    } else {
+        state.entry
+    }
+}
+
+// The state one tick on. It shows the entry that was current.
+fn state_after(table: Lookup, state: LaneState) -> LaneState
+    requires { ⌜ ((state .entry < table .entries) × (state .tick < table .ticks)) × (endsCalendar table state ≡ false) ⌝ }
+    ensures { λ r. ⌜ r ≡ stateAfter table state ⌝ }
+{
+    if ends_cycle(table, state) {
+        return LaneState {
+            cycle: state.cycle + 1,
+            tick: 0,
+            entry: 0,
+            first: state.first,
+            kind: table.kind,
+            row: table.row,
+        };
+    }
+    let entry = entry_after(table, state);
+    LaneState {
+        cycle: state.cycle,
+        tick: state.tick + 1,
+        entry: entry,
+        first: state.first,
+        kind: table.kind,
+        row: table.row,
+    }
+}
+
+// A step, once its numbers are looked up. A refusal leaves the state as it was.
+pub fn decide(table: Lookup, state: LaneState) -> Stepped
+    ensures { λ r. ⌜ r ≡ decided table state ⌝ }
+{
+    if !fits_table(table, state) {
+        return Stepped {
+            number: 27,
+            state: state,
+        };
+    }
+    if ends_calendar(table, state) {
+        return Stepped {
+            number: 28,
+            state: state,
+        };
+    }
+    let next = state_after(table, state);
+    Stepped {
+        number: 0,
+        state: next,
+    }
+}
+
+// The word at an index, or 0 past the end.
+fn word_at(words: &[u32], i: usize) -> u32
+    ensures { λ r. ⌜ r ≡ getD (now (words .entry)) i 0 ⌝ }
+{
+    if i < words.len() { words[i] } else { 0 }
+}
+
+// What a step of the state looks up: six words at most.
+fn look_up(words: &[u32], state: LaneState) -> Lookup
+    ensures { λ r. ⌜ r ≡ lookup (now (words .entry)) state ⌝ }
+{
+    let first = state.first as usize;
+    let at = first + 2 + 3 * state.entry as usize;
+    let ticks = word_at(words, first);
+    let entries = word_at(words, first + 1);
+    let begin = word_at(words, at);
+    let kind = word_at(words, at + 1);
+    let row = word_at(words, at + 2);
+    let next = word_at(words, at + 3);
+    let inside = first + 2 + 3 * entries as usize <= words.len();
+    Lookup {
+        inside: inside,
+        ticks: ticks,
+        entries: entries,
+        begin: begin,
+        kind: kind,
+        row: row,
+        next: next,
+    }
+}
+
+// A step of a state by value: its number, 0 where it moves, and the state afterwards.
+pub fn step(words: &[u32], state: LaneState) -> Stepped
+    ensures { λ r. ⌜ r ≡ step (now (words .entry)) state ⌝ }
+{
+    decide(look_up(words, state), state)
+}
