@@ -3,7 +3,7 @@ ghost use mathlib.Core.Path.{_≡_};
 ghost use mathlib.Core.Bool.{false};
 ghost use Prim.Native.Nat.{_<_};
 ghost use lib.ListN.{getD};
-ghost use Rattle.plan.specs.Dispatch.{step};
+ghost use Rattle.plan.specs.Dispatch.{step, refusal, stepAll};
 ghost use Rattle.steps.specs.Lookups.{lookup, fitsTable, endsCycle, endsCalendar, entryAfter, stateAfter, decided};
 use plan::LaneState;
 use plan::Stepped;
@@ -146,4 +146,34 @@ pub fn step(words: &[u32], state: LaneState) -> Stepped
     ensures { λ r. ⌜ r ≡ step (now (words .entry)) state ⌝ }
 {
     decide(look_up(words, state), state)
+}
+
+// A step of one lane: the caller's own record moves, or stays as it was where the step is refused. Gives the step's number.
+pub fn step_lane(words: &[u32], lane: &mut LaneState) -> u32
+    ensures { λ r. ⌜ (r ≡ step (now (words .entry)) (now (lane .entry)) .number) × (now (lane .exit) ≡ step (now (words .entry)) (now (lane .entry)) .state) ⌝ }
+{
+    let stepped = step(words, *lane);
+    *lane = stepped.state;
+    stepped.number
+}
+
+// A step of all lanes: every record moves, or none where one is refused. Gives the number of the lowest record that is refused, or 0.
+pub fn step_all(words: &[u32], lanes: &mut [LaneState]) -> u32
+    ensures { λ r. ⌜ (r ≡ refusal (now (words .entry)) (now (lanes .entry))) × (now (lanes .exit) ≡ stepAll (now (words .entry)) (now (lanes .entry))) ⌝ }
+{
+    let mut i = 0;
+    while i < lanes.len() {
+        let stepped = step(words, lanes[i]);
+        if stepped.number != 0 {
+            return stepped.number;
+        }
+        i += 1;
+    }
+    i = 0;
+    while i < lanes.len() {
+        let stepped = step(words, lanes[i]);
+        lanes[i] = stepped.state;
+        i += 1;
+    }
+    0
 }
