@@ -1,4 +1,5 @@
-// The dispatcher (paper 01, "Dispatch" and questions 27 and 28): a lane's state moves one tick along its table.
+// The dispatcher (paper 01, "Dispatch" and questions 27 and 28): a lane's state moves one tick along its table. Any state and any
+// words are taken; those that do not fit each other are refused.
 ghost use mathlib.Core.Path.{_≡_};
 ghost use mathlib.Core.Bool.{false};
 ghost use Prim.Native.Nat.{_<_};
@@ -8,8 +9,8 @@ ghost use Rattle.steps.specs.Lookups.{lookup, fitsTable, endsCycle, ends
 use plan::LaneState;
 use plan::Stepped;
 
-// What a step looks up in its lane's table: whether the table lies inside the words, H, n, the current entry's words, and the
-// first tick of the entry after it. A word past the end counts as 0.
+// What a step looks up in its lane's table: whether the table lies inside the words; its cycle H and count n of entries; the
+// current entry's first tick, kind and row; and the first tick of the entry after it. A word past the end counts as 0.
 pub struct Lookup {
     pub inside: bool,
     pub ticks: u32,
@@ -39,7 +40,7 @@ fn ends_cycle(table: Lookup, state: LaneState) -> bool
     state.tick as u64 + 1 == table.ticks as u64
 }
 
-// 28: is it the last tick of the last cycle that the calendar has?
+// 28: is this the last tick of cycle 2^64 - 1, where the calendar ends?
 fn ends_calendar(table: Lookup, state: LaneState) -> bool
     ensures { λ r. ⌜ r ≡ endsCalendar table state ⌝ }
 {
@@ -61,7 +62,7 @@ fn entry_after(table: Lookup, state: LaneState) -> u32
     }
 }
 
-// The state one tick on. It shows the entry that was current.
+// The state one tick on. It shows the kind and row of the entry that it leaves or stays in.
 fn state_after(table: Lookup, state: LaneState) -> LaneState
     requires { ⌜ ((state .entry < table .entries) × (state .tick < table .ticks)) × (endsCalendar table state ≡ false) ⌝ }
     ensures { λ r. ⌜ r ≡ stateAfter table state ⌝ }
@@ -87,7 +88,7 @@ fn state_after(table: Lookup, state: LaneState) -> LaneState
     }
 }
 
-// A step, once its numbers are looked up. A refusal leaves the state as it was.
+// A step, from the numbers that it looks up, wherever they are read. A refusal leaves the state as it was.
 pub fn decide(table: Lookup, state: LaneState) -> Stepped
     ensures { λ r. ⌜ r ≡ decided table state ⌝ }
 {
@@ -117,7 +118,7 @@ fn word_at(words: &[u32], i: usize) -> u32
     if i < words.len() { words[i] } else { 0 }
 }
 
-// What a step of the state looks up: six words at most.
+// What a step of the state looks up: at most six words are read.
 fn look_up(words: &[u32], state: LaneState) -> Lookup
     ensures { λ r. ⌜ r ≡ lookup (now (words .entry)) state ⌝ }
 {
@@ -141,14 +142,15 @@ fn look_up(words: &[u32], state: LaneState) -> Lookup
     }
 }
 
-// A step of a state by value: its number, 0 where it moves, and the state afterwards.
+// A step of a state by value: 0 and the state moved, or the refusal's number and the state as it was.
 pub fn step(words: &[u32], state: LaneState) -> Stepped
     ensures { λ r. ⌜ r ≡ step (now (words .entry)) state ⌝ }
 {
     decide(look_up(words, state), state)
 }
 
-// A step of one lane: the caller's own record moves, or stays as it was where the step is refused. Gives the step's number.
+// A step of one lane: the new state is written into the caller's own record. Gives 0, or the number of a refusal, which leaves
+// the record as it was.
 pub fn step_lane(words: &[u32], lane: &mut LaneState) -> u32
     ensures { λ r. ⌜ (r ≡ step (now (words .entry)) (now (lane .entry)) .number) × (now (lane .exit) ≡ step (now (words .entry)) (now (lane .entry)) .state) ⌝ }
 {
@@ -157,7 +159,8 @@ pub fn step_lane(words: &[u32], lane: &mut LaneState) -> u32
     stepped.number
 }
 
-// A step of all lanes: every record moves, or none where one is refused. Gives the number of the lowest record that is refused, or 0.
+// A step of all lanes: every record is tried, and then every record moves. Gives 0, or the refusal number of the lowest record
+// that is refused, and then none moves.
 pub fn step_all(words: &[u32], lanes: &mut [LaneState]) -> u32
     ensures { λ r. ⌜ (r ≡ refusal (now (words .entry)) (now (lanes .entry))) × (now (lanes .exit) ≡ stepAll (now (words .entry)) (now (lanes .entry))) ⌝ }
 {

@@ -5,38 +5,27 @@ use Rattle.steps.proofs.Deciding.{fitting}
 use borrow.Author.Needs.{needs}
 use Rattle.steps.proofs.decide.Statement.{statement}
 use Rattle.steps.proofs.decide.Tie as tie
-use Rattle.steps.proofs.decide.Reads as reads
-use Rattle.steps.proofs.decide.Lts as lts
-use Rattle.steps.proofs.ends_calendar.Reads as ends-calendar-reads
-use Rattle.steps.proofs.fits_table.Reads as fits-table-reads
-use Rattle.steps.proofs.state_after.Reads as state-after-reads
 
--- src/lib.rt:94:9
 fits-table-requires : tie.Need-fits-table-requires
 fits-table-requires c κs = search needs
 
--- src/lib.rt:95:9
 returns : tie.Need-returns
 unfolding decided
 returns c = rw (← c .before .fits-table .ensures, c .if1 .taken) refl
 
--- src/lib.rt:100:8
 ends-calendar-requires : tie.Need-ends-calendar-requires
 ends-calendar-requires c κs = search needs
 
--- src/lib.rt:101:9
 returns-2 : tie.Need-returns-2
 unfolding decided
 returns-2 c = rw (← c .before .before .before .fits-table .ensures, c .before .before .if1 .left, ← c .before .ends-calendar .ensures, c .if2 .taken) refl
 
--- src/lib.rt:106:9
 state-after-requires : tie.Need-state-after-requires
 state-after-requires c κs = let b = c .before .before .before .before in (fitting (b .args .table) (b .args .state) (sym (c .before .before .before .fits-table .ensures) ∙ not-false _ (c .before .before .if1 .left)), sym (c .before .ends-calendar .ensures) ∙ c .if2 .left)
 
--- src/lib.rt:91:1
 returns-3 : tie.Need-returns-3
 unfolding decided
-returns-3 c = rw (← c .before .before .before .before .fits-table .ensures, c .before .before .before .if1 .left, ← c .before .before .ends-calendar .ensures, c .before .if2 .left, c .state-after .ensures) refl
+returns-3 c = rw (← c .before .before .before .before .fits-table .ensures, c .before .before .before .if1 .left, ← c .before .before .ends-calendar .ensures, c .before .if2 .left) (cc)
 
 pub decide-spec : {M : Type 1} → statement M
 decide-spec =

@@ -3,27 +3,20 @@ use Rattle.steps.specs.Lookups.{entryAfter}
 use borrow.Author.Needs.{needs}
 use Rattle.steps.proofs.entry_after.Statement.{statement}
 use Rattle.steps.proofs.entry_after.Tie as tie
-use Rattle.steps.proofs.entry_after.Reads as reads
-use Rattle.steps.proofs.entry_after.Lts as lts
 
--- src/lib.rt:55:19
 add-follows : tie.Need-add-follows
 add-follows c = search needs
 
--- src/lib.rt:56:33
 add-reached : tie.Need-add-reached
 add-reached c = search needs
 
--- src/lib.rt:58:9
 add-result : tie.Need-add-result
 add-result c = search needs
 
--- src/lib.rt:51:1
 returns : tie.Need-returns
 unfolding entryAfter
 returns c = rw (c .before .if1 .taken) refl
 
--- src/lib.rt:51:1
 returns-2 : tie.Need-returns-2
 unfolding entryAfter
 returns-2 c = rw (c .if1 .left) refl

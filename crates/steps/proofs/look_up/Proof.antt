@@ -2,87 +2,64 @@ use Rattle.steps.proofs.Reading.{looked-up}
 use borrow.Author.Needs.{needs}
 use Rattle.steps.proofs.look_up.Statement.{statement}
 use Rattle.steps.proofs.look_up.Tie as tie
-use Rattle.steps.proofs.look_up.Reads as reads
-use Rattle.steps.proofs.look_up.Lts as lts
-use Rattle.steps.proofs.word_at.Reads as word-at-reads
 
--- src/lib.rt:124:17
 cast-first : tie.Need-cast-first
 cast-first c = search needs
 
--- src/lib.rt:125:14
 add-at : tie.Need-add-at
 add-at c = search needs
 
--- src/lib.rt:125:30
 cast-at : tie.Need-cast-at
 cast-at c = search needs
 
--- src/lib.rt:125:26
 mul-at : tie.Need-mul-at
 mul-at c = search needs
 
--- src/lib.rt:125:14
 add-at-2 : tie.Need-add-at-2
 add-at-2 c = search needs
 
--- src/lib.rt:126:9
 word-at-requires : tie.Need-word-at-requires
 word-at-requires c κs = search needs
 
--- src/lib.rt:127:34
 add-word-at : tie.Need-add-word-at
 add-word-at c = search needs
 
--- src/lib.rt:127:9
 word-at-requires-2 : tie.Need-word-at-requires-2
 word-at-requires-2 c κs = search needs
 
--- src/lib.rt:128:9
 word-at-requires-3 : tie.Need-word-at-requires-3
 word-at-requires-3 c κs = search needs
 
--- src/lib.rt:129:31
 add-word-at-2 : tie.Need-add-word-at-2
 add-word-at-2 c = search needs
 
--- src/lib.rt:129:9
 word-at-requires-4 : tie.Need-word-at-requires-4
 word-at-requires-4 c κs = search needs
 
--- src/lib.rt:130:30
 add-word-at-3 : tie.Need-add-word-at-3
 add-word-at-3 c = search needs
 
--- src/lib.rt:130:9
 word-at-requires-5 : tie.Need-word-at-requires-5
 word-at-requires-5 c κs = search needs
 
--- src/lib.rt:131:31
 add-word-at-4 : tie.Need-add-word-at-4
 add-word-at-4 c = search needs
 
--- src/lib.rt:131:9
 word-at-requires-6 : tie.Need-word-at-requires-6
 word-at-requires-6 c κs = search needs
 
--- src/lib.rt:132:18
 add-inside : tie.Need-add-inside
 add-inside c = search needs
 
--- src/lib.rt:132:34
 cast-inside : tie.Need-cast-inside
 cast-inside c = search needs
 
--- src/lib.rt:132:30
 mul-inside : tie.Need-mul-inside
 mul-inside c = search needs
 
--- src/lib.rt:132:18
 add-inside-2 : tie.Need-add-inside-2
 add-inside-2 c = search needs
 
--- src/lib.rt:121:1
 returns : tie.Need-returns
 returns c = let b = c .before .before .before .before .before .before .before .before .before in cc (looked-up (b .args .words .now) (b .args .state))
 
