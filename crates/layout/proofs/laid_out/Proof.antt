@@ -1,3 +1,4 @@
+use Rattle.layout.specs.Tests.{laidOut}
 use borrow.Author.Needs.{needs}
 use Rattle.layout.proofs.laid_out.Statement.{statement}
 use Rattle.layout.proofs.laid_out.Tie as tie
@@ -16,7 +17,8 @@ tables-fit-requires c κs = search needs
 
 -- src/lib.rt:118:1
 returns : tie.Need-returns
-returns c = ?
+unfolding laidOut
+returns c = cc
 
 pub laid-out-spec : {M : Type 1} → statement M
 laid-out-spec = tie.close (tie.spec rows-of-requires tables-fit-requires returns)

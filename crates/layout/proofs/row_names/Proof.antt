@@ -105,22 +105,22 @@ returns c = let a = c .before .before .before .args in sym (ap (λ (t : Table). 
 -- src/lib.rt:194:1
 returns-2 : tie.Need-returns-2
 unfolding names
-returns-2 c = ?
+returns-2 c = rw (c .before .before .before .enum-told2 .given .1, c .before .before .vcpu-at .ensures, c .before .rows-of .ensures) refl
 
 -- src/lib.rt:194:1
 returns-3 : tie.Need-returns-3
 unfolding names
-returns-3 c = ?
+returns-3 c = rw (c .before .before .before .enum-told3 .given .1, c .before .before .task-at .ensures, c .before .rows-of2 .ensures) refl
 
 -- src/lib.rt:194:1
 returns-4 : tie.Need-returns-4
 unfolding names
-returns-4 c = ?
+returns-4 c = rw (c .before .before .before .enum-told4 .given .1, c .before .before .window-at .ensures, c .before .rows-of3 .ensures) refl
 
 -- src/lib.rt:194:1
 returns-5 : tie.Need-returns-5
 unfolding names
-returns-5 c = ?
+returns-5 c = rw (c .before .before .before .enum-told5 .given .1, c .before .before .piece-at .ensures, c .before .rows-of4 .ensures) refl
 
 -- src/lib.rt:194:1
 returns-6 : tie.Need-returns-6

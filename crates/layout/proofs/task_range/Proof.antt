@@ -1,3 +1,4 @@
+use Rattle.plan.specs.declared.Task.{Task}
 use mathlib.Core.Path.{_≡_, refl, sym, ap, subst, _∙_}
 use Rattle.plan.specs.Questions.{inRange}
 use borrow.Author.Needs.{needs}
@@ -15,7 +16,7 @@ task-at-requires c κs = search needs
 -- src/lib.rt:228:9
 returns : tie.Need-returns
 unfolding inRange
-returns c = ?
+returns c = let e = sym (ap (λ (x : Task). x .period) (c .before .task-at .ensures)) ∙ c .if1 .taken in rw e refl
 
 -- src/lib.rt:230:19
 cycle-ticks-requires : tie.Need-cycle-ticks-requires
