@@ -1,6 +1,6 @@
 -- The frame of a stream's job at a hop: what a search for it finds, and that there is one where question 16 is passed.
-use Prim.Native.Nat.{ℕ, _+_, _*_, _^_, _<_, _≤_}
-use mathlib.Core.Path.{_≡_, refl, sym, ap, _∙_}
+use Prim.Native.Nat.{ℕ, _+_, _*_, _/_, _^_, _<_, _≤_}
+use mathlib.Core.Path.{_≡_, refl, sym, ap, subst, _∙_}
 use mathlib.Core.Bool.{Bool, true, false, not, true≢false}
 use mathlib.Core.List.{List}
 use native.Mathlib.Nat.{mul-le-mul-right}
@@ -12,12 +12,12 @@ use Rattle.plan.specs.declared.Link.{Link}
 use Rattle.plan.specs.declared.Found.{Found}
 use Rattle.plan.specs.declared.Found.the-variants.{At, Nothing}
 use Rattle.plan.specs.declared.Table.the-variants.{Streams, Frames}
-use Rattle.plan.specs.Image.{rows, stream, frame, link}
+use Rattle.plan.specs.Image.{cycleTicks, rows, stream, frame, link}
 use Rattle.plan.specs.Search.{firstNo, first, all, count}
 use Rattle.plan.specs.Questions as Q
-use Rattle.plan.specs.Questions.{nodeOf, ofHop, frameOf, reached, joined, questionAt, streamQuestions}
+use Rattle.plan.specs.Questions.{nodeOf, jobs, ofHop, frameOf, reached, joined, questionAt, streamQuestions}
 use Rattle.plan.specs.Reading as R
-use Rattle.plan.specs.Reading.{FrameFits, EachJob, OneFrame, streamMeanings}
+use Rattle.plan.specs.Reading.{StreamEnds, FrameFits, EachJob, OneFrame, streamMeanings}
 use Rattle.plan.proofs.Searching.{stops, none-iff, at-iff, all-stops}
 use Rattle.plan.proofs.Tests.{with-row, without-row}
 use Rattle.plan.proofs.Meanings.{stream-agree}
@@ -81,7 +81,11 @@ module _ (s : List ℕ) (m k : ℕ) where
   arrives n r a b e = rw (a, b, e) refl
 
 module _ (s : List ℕ) (p : Framed s) where
-  -- 15 and 16, as statements
+  -- 14 to 16, as statements
+  ends : (m : ℕ) → m < rows s Streams → StreamEnds s m
+  unfolding questionAt Q.each R.each streamQuestions streamMeanings
+  ends m l = stream-agree s .0 .reads m .0 (passed-row (streamQuestions s) 3 (p .passed) 0 (omega arith) m l)
+
   fits : (f : ℕ) → f < rows s Frames → FrameFits s f
   unfolding questionAt Q.each R.each streamQuestions streamMeanings
   fits f l = stream-agree s .1 .0 .reads f .0 (passed-row (streamQuestions s) 3 (p .passed) 1 (omega arith) f l)
@@ -92,6 +96,11 @@ module _ (s : List ℕ) (p : Framed s) where
 
   pub frame-exists : (m k h : ℕ) → JobOf s m k → h < stream s m .hops → frameOf s m k h < rows s Frames
   frame-exists m k h j l = let f = framed m (j .row) k (j .job) h l in lowest-below s m k h (f .0) (f .1 .0) (f .1 .1)
+
+  -- equal periods: the receiver has the sender's jobs
+  pub receiver-job : (m k : ℕ) → JobOf s m k → k < jobs s (stream s m .receiver)
+  unfolding jobs
+  receiver-job m k j = subst (λ (x : ℕ). k < cycleTicks s / x) (ends m (j .row) .0) (j .job)
 
   -- a frame's job is one of its stream's, and its hop one of its hops
   pub job-of : (f : ℕ) → f < rows s Frames → JobOf s (frame s f .stream) (frame s f .job)

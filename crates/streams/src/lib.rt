@@ -1,21 +1,30 @@
 // Questions 14 to 21 (paper 01, "The questions"): streams and frames.
 ghost use mathlib.Core.Path.{_≡_};
-ghost use Prim.Native.Nat.{_<_};
+ghost use Prim.Native.Nat.{_-_, _<_, _≤_};
 ghost use Rattle.plan.specs.declared.Table.the-variants.{Streams, Frames};
 ghost use Rattle.plan.specs.Image.{rows};
 ghost use Rattle.plan.specs.Search.{count};
-ghost use Rattle.plan.specs.Held.{Sound};
+ghost use Rattle.plan.specs.Held.{Sound, Passed, refusing};
 ghost use Rattle.plan.specs.Questions.{streamEnds, frameFits, ofHop, frameOf, oneFrame, joined, hopWaits, frameApart, frameClear};
-ghost use Rattle.streams.specs.Framing.{Framed, JobOf};
+ghost use Rattle.plan.specs.Questions.{messageWaits, inTime, eachJob, questionAt, streamQuestions, answerTo};
+ghost use Rattle.jobs.specs.Times.{Timed};
+ghost use Rattle.streams.specs.Framing.{Framed, JobOf, jobAsked, tableAsked, Asking};
+use jobs::first_start;
+use jobs::last_end;
+use plan::Answer;
+use plan::Found;
 use plan::Table;
 use tables::frame_at;
 use tables::link_at;
+use tables::precision_ticks;
 use tables::rows_of;
+use tables::shape_of;
 use tables::stream_at;
 use tables::task_at;
 use terms::across_at;
 use terms::frame_end;
 use terms::jobs_of;
+use terms::limit_of;
 use terms::node_of;
 use terms::stream_period;
 
@@ -163,4 +172,122 @@ fn frame_clear(image: &[u8], frame: u32) -> bool
         lower += 1;
     }
     true
+}
+
+// 20: does hop 0 start no sooner than the sender job's last end, and the receiver job no sooner than the last hop is across?
+fn message_waits(image: &[u8], times: &[u32], stream: u32, job: u32) -> bool
+    requires { ⌜ Timed (now image) (now times) × (Framed (now image) × JobOf (now image) stream job) ⌝ }
+    ensures { λ r. ⌜ r ≡ messageWaits (now (image .entry)) stream job ⌝ }
+{
+    let m = stream_at(image, stream);
+    let first = frame_of(image, stream, job, 0);
+    let last = frame_of(image, stream, job, m.hops - 1);
+    let sent = last_end(image, times, m.sender, job) <= frame_at(image, first).start;
+    let read = across_at(image, last) <= first_start(image, times, m.receiver, job) as u64;
+    sent & read
+}
+
+// 21: is the receiver's last end less the sender's first start, plus P, at most E?
+fn in_time(image: &[u8], times: &[u32], stream: u32, job: u32) -> bool
+    requires { ⌜ Timed (now image) (now times) × (Framed (now image) × JobOf (now image) stream job) ⌝ }
+    ensures { λ r. ⌜ r ≡ inTime (now (image .entry)) stream job ⌝ }
+{
+    let m = stream_at(image, stream);
+    let end = last_end(image, times, m.receiver, job) as u64 + precision_ticks(image) as u64;
+    let start = first_start(image, times, m.sender, job) as u64;
+    end <= limit_of(image, stream) as u64 + start
+}
+
+// Does a job of a stream pass question 16, 17, 20 or 21?
+fn job_passes(image: &[u8], times: &[u32], number: u32, stream: u32, job: u32) -> bool
+    requires { ⌜ Asking (now image) (now times) number × ((16 ≤ number) × JobOf (now image) stream job) ⌝ }
+    ensures { λ r. ⌜ r ≡ jobAsked (now (image .entry)) number stream job ⌝ }
+{
+    match number {
+        16 => one_frame(image, stream, job),
+        17 => hops_joined(image, stream, job),
+        20 => message_waits(image, times, stream, job),
+        _ => in_time(image, times, stream, job),
+    }
+}
+
+// Does every job of a stream? Only as many jobs as there are frames can pass 16, so the search ends soon.
+fn each_job(image: &[u8], times: &[u32], number: u32, stream: u32) -> bool
+    requires { ⌜ Asking (now image) (now times) number × ((16 ≤ number) × (stream < rows (now image) Streams)) ⌝ }
+    ensures { λ r. ⌜ r ≡ eachJob (now (image .entry)) (jobAsked (now (image .entry)) number) stream ⌝ }
+{
+    let jobs = jobs_of(image, stream_at(image, stream).sender);
+    let mut job: u32 = 0;
+    while job < jobs {
+        if !job_passes(image, times, number, stream, job) {
+            return false;
+        }
+        job += 1;
+    }
+    true
+}
+
+// Does a row pass question 14 to 21?
+fn passes(image: &[u8], times: &[u32], number: u32, row: u32) -> bool
+    requires { ⌜ Asking (now image) (now times) number ⌝ }
+    requires { ⌜ row < questionAt (streamQuestions (now image)) (number - 14) .many ⌝ }
+    ensures { λ r. ⌜ r ≡ questionAt (streamQuestions (now (image .entry))) (number - 14) .ok row ⌝ }
+{
+    match number {
+        14 => stream_ends(image, row),
+        15 => frame_fits(image, row),
+        18 => hop_waits(image, row),
+        19 => frame_clear(image, row),
+        _ => each_job(image, times, number, row),
+    }
+}
+
+// The table that a question asks over.
+fn table_of(number: u32) -> Table
+    ensures { λ r. ⌜ r ≡ tableAsked number ⌝ }
+{
+    match number {
+        15 => Table::Frames,
+        18 => Table::Frames,
+        19 => Table::Frames,
+        _ => Table::Streams,
+    }
+}
+
+// The lowest row that says no.
+fn first_no(image: &[u8], times: &[u32], number: u32) -> Found
+    requires { ⌜ Asking (now image) (now times) number ⌝ }
+    ensures { λ r. ⌜ r ≡ refusing (questionAt (streamQuestions (now (image .entry))) (number - 14)) ⌝ }
+{
+    let rows = rows_of(image, table_of(number));
+    let mut row: u32 = 0;
+    while row < rows {
+        if !passes(image, times, number, row) {
+            return Found::At(row);
+        }
+        row += 1;
+    }
+    Found::Nothing
+}
+
+// Questions 14 to 21, in this order. The times are those of the plan's jobs.
+pub fn ask(image: &[u8], times: &[u32]) -> Answer
+    requires { ⌜ Sound (now image) × Timed (now image) (now times) ⌝ }
+    ensures { λ r. ⌜ r ≡ answerTo (streamQuestions (now (image .entry))) ⌝ }
+{
+    let mut number: u32 = 14;
+    while number <= 21 {
+        match first_no(image, times, number) {
+            Found::At(row) => {
+                return Answer {
+                    number,
+                    table: shape_of(table_of(number)).number,
+                    row,
+                };
+            }
+            Found::Nothing => {}
+        }
+        number += 1;
+    }
+    plan::accepted()
 }
