@@ -1,0 +1,97 @@
+use mathlib.Core.Path.{refl}
+use native.Mathlib.Omega.{arith}
+use lib.ListN.{length-set}
+use Rattle.jobs.specs.Times.{takenAt}
+use borrow.Author.Needs.{needs}
+use Rattle.jobs.proofs.take_at.Statement.{statement}
+use Rattle.jobs.proofs.take_at.Tie as tie
+use Rattle.jobs.proofs.take_at.Reads as reads
+use Rattle.jobs.proofs.take_at.Lts as lts
+use Rattle.jobs.proofs.greater.Reads as greater-reads
+use Rattle.jobs.proofs.lesser.Reads as lesser-reads
+
+-- src/lib.rt:72:30
+add-lesser : tie.Need-add-lesser
+add-lesser c = search needs
+
+-- src/lib.rt:72:24
+mul-lesser : tie.Need-mul-lesser
+mul-lesser c = search needs
+
+-- src/lib.rt:72:24
+slice-read-lesser : tie.Need-slice-read-lesser
+slice-read-lesser c = search needs
+
+-- src/lib.rt:72:9
+lesser-requires : tie.Need-lesser-requires
+lesser-requires c κs = search needs
+
+-- src/lib.rt:73:30
+add-greater : tie.Need-add-greater
+add-greater c = search needs
+
+-- src/lib.rt:73:24
+mul-greater : tie.Need-mul-greater
+mul-greater c = search needs
+
+-- src/lib.rt:73:24
+slice-read-greater : tie.Need-slice-read-greater
+slice-read-greater c = search needs
+
+-- src/lib.rt:73:9
+greater-requires : tie.Need-greater-requires
+greater-requires c κs = search needs
+
+-- src/lib.rt:74:11
+add-times : tie.Need-add-times
+add-times c = search needs
+
+-- src/lib.rt:74:5
+mul-times : tie.Need-mul-times
+mul-times c = search needs
+
+-- src/lib.rt:74:5
+slice-write-times : tie.Need-slice-write-times
+slice-write-times c = search needs
+
+-- src/lib.rt:75:11
+add-times-2 : tie.Need-add-times-2
+add-times-2 c = search needs
+
+-- src/lib.rt:75:5
+mul-times-2 : tie.Need-mul-times-2
+mul-times-2 c = search needs
+
+-- src/lib.rt:75:5
+slice-write-times-2 : tie.Need-slice-write-times-2
+slice-write-times-2 c = let z = c .before .before .before .before .before .pre .0 in simp length-set (omega arith)
+
+-- src/lib.rt:68:1
+same-length : tie.Need-same-length
+same-length c = search needs
+
+-- src/lib.rt:68:1
+returns : tie.Need-returns
+unfolding takenAt
+returns c = rw (c .before .before .lesser .ensures, c .greater .ensures) refl
+
+pub take-at-spec : {M : Type 1} → statement M
+take-at-spec =
+    tie.close
+    (tie.spec
+    add-lesser
+    mul-lesser
+    slice-read-lesser
+    lesser-requires
+    add-greater
+    mul-greater
+    slice-read-greater
+    greater-requires
+    add-times
+    mul-times
+    slice-write-times
+    add-times-2
+    mul-times-2
+    slice-write-times-2
+    same-length
+    returns)
