@@ -109,9 +109,9 @@ module _ (s : List ℕ) (p : Framed s) where
   pub hop-of : (f : ℕ) → f < rows s Frames → frame s f .hop < stream s (frame s f .stream) .hops
   hop-of f l = fits f l .1
 
--- the end of a job's period fits 64 bits
-pub next-fits : {a b : ℕ} → a < 2 ^ 32 → b < 2 ^ 32 → (a + 1) * b < 2 ^ 64
-next-fits {a} {b} ha hb =
-    let la : a + 1 ≤ 4294967296 = omega arith in
-    let h : (a + 1) * b ≤ 4294967296 * b = mul-le-mul-right b la in
+-- the start and the end of a job's period fit 64 bits
+pub product-below : {a b : ℕ} → a ≤ 2 ^ 32 → b < 2 ^ 32 → a * b < 2 ^ 64
+product-below {a} {b} ha hb =
+    let la : a ≤ 4294967296 = omega arith in
+    let h : a * b ≤ 4294967296 * b = mul-le-mul-right b la in
     omega arith

@@ -29,7 +29,7 @@ loop-holds c = (omega arith, omega arith, passed-none (streamQuestions (c .befor
 
 -- src/lib.rt:280:15
 first-no-requires : tie.Need-first-no-requires Inv-loop μ-loop
-first-no-requires c κs = let p = c .before .before .before .before .pre in let l = c .before .loop in record { sound = p .0; timed = p .1; from = l .inv .0; to = c .loop-test .taken; passed = l .inv .2 }
+first-no-requires c κs = let p = c .before .before .before .before .pre in let l = c .before .loop in record { sound = p .0; timed = p .1; from = l .inv .0; to = omega arith; passed = l .inv .2 }
 
 -- src/lib.rt:281:23
 enum-known-row : tie.Need-enum-known-row Inv-loop μ-loop

@@ -1,9 +1,7 @@
-use Prim.Native.Nat.{_^_, _<_, _*_, _+_}
 use native.Mathlib.Omega.{arith}
-use Rattle.terms.proofs.Products.{product-fits}
 use Rattle.plan.specs.Questions.{frameFits}
 use Rattle.plan.specs.declared.Table.the-variants.{Streams, Frames}
-use Rattle.streams.proofs.Framing.{next-fits}
+use Rattle.streams.proofs.Framing.{product-below}
 use borrow.Author.Needs.{needs}
 use Rattle.streams.proofs.frame_fits.Statement.{statement}
 use Rattle.streams.proofs.frame_fits.Tie as tie
@@ -41,7 +39,7 @@ cast-starts c = search needs
 
 -- src/lib.rt:43:18
 mul-starts : tie.Need-mul-starts
-mul-starts c = let f = c .before .before .before .before .before .before .before .frame-at in let t = c .before .before .before .before .before .stream-period in let a : f .result .job < 2 ^ 32 = omega (arith, f .ok) in let b : t .result < 2 ^ 32 = omega (arith, t .ok) in let d : 0 < 2 ^ 32 = omega arith in let e = product-fits a b d in omega arith
+mul-starts c = record { fits = product-below (omega (arith, c .before .before .before .before .before .before .before .frame-at .ok)) (omega (arith, c .before .before .before .before .before .stream-period .ok)) }
 
 -- src/lib.rt:43:43
 cast-starts-2 : tie.Need-cast-starts-2
@@ -61,7 +59,7 @@ add-ends c = search needs
 
 -- src/lib.rt:44:43
 mul-ends : tie.Need-mul-ends
-mul-ends c = let f = c .before .before .before .before .before .before .before .before .before .before .frame-at in let t = c .before .before .before .before .before .before .before .before .stream-period in let a : f .result .job < 2 ^ 32 = omega (arith, f .ok) in let b : t .result < 2 ^ 32 = omega (arith, t .ok) in let e = next-fits a b in omega arith
+mul-ends c = record { fits = product-below (omega (arith, c .before .before .before .before .before .before .before .before .before .before .frame-at .ok)) (omega (arith, c .before .before .before .before .before .before .before .before .stream-period .ok)) }
 
 -- src/lib.rt:34:1
 returns : tie.Need-returns

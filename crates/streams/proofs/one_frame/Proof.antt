@@ -39,7 +39,7 @@ hop-count-requires c κs = c .before .before .before .before .pre .0
 -- src/lib.rt:83:13
 returns : tie.Need-returns Inv-loop μ-loop
 unfolding oneFrame
-returns c = let b = c .before in let l = b .before .before .loop in let g = ap (λ (x : Stream). x .hops) (b .before .before .before .stream-at .ensures) in let a = b .before .before .before .before .before .args in let s = a .image .now in let t = once s (a .stream) (a .job) in sym (all-stops t (stream s (a .stream) .hops) (l .hop) (omega arith) (ne-eqb _ 1 (λ e. c .if1 .taken (b .hop-count .ensures ∙ e))))
+returns c = let b = c .before in let l = b .before .before .loop in let g = ap (λ (x : Stream). x .hops) (b .before .before .before .stream-at .ensures) in let a = b .before .before .before .before .before .args in let s = a .image .now in let t = once s (a .stream) (a .job) in sym (all-stops t (stream s (a .stream) .hops) (l .hop) (omega arith) (ne-eqb _ 1 (λ e. let z : b .hop-count .result ≡ 1 = b .hop-count .ensures ∙ e in omega arith)))
 
 -- src/lib.rt:85:9
 add-hop : tie.Need-add-hop Inv-loop μ-loop
@@ -51,7 +51,7 @@ loop-less c = omega arith
 
 -- src/lib.rt:81:5
 loop-again : tie.Need-loop-again Inv-loop μ-loop
-loop-again c = let b = c .before in let l = b .before .before .loop in let g = ap (λ (x : Stream). x .hops) (b .before .before .before .stream-at .ensures) in let a = b .before .before .before .before .before .args in let s = a .image .now in let t = once s (a .stream) (a .job) in (omega arith, rw add-one (all-turn t (l .hop) (l .inv .1) (eq-eqb _ 1 (sym (b .hop-count .ensures) ∙ c .if1 .left))))
+loop-again c = let b = c .before in let l = b .before .before .loop in let g = ap (λ (x : Stream). x .hops) (b .before .before .before .stream-at .ensures) in let a = b .before .before .before .before .before .args in let s = a .image .now in let t = once s (a .stream) (a .job) in (omega arith, rw add-one (all-turn t (l .hop) (l .inv .1) (eq-eqb _ 1 (let z : b .hop-count .result ≡ 1 = omega arith in sym (b .hop-count .ensures) ∙ z))))
 
 -- src/lib.rt:75:1
 returns-2 : tie.Need-returns-2 Inv-loop μ-loop
