@@ -21,6 +21,10 @@ whole-yes : (n : ℕ) (b : Bool) (qs : List Question) → b ≡ true → answerT
 unfolding answerTo whole firstNo
 whole-yes n b qs e = rw (e, answerTo) refl
 
+none-asked : answerTo [] ≡ accepted
+unfolding answerTo
+none-asked = refl
+
 -- 2, as imageQuestions asks it
 abbrev pub pointsBack : List ℕ → Bool
 pointsBack s = eqb (wordAt s (length s - 4)) (length s - trailerBytes)
@@ -50,5 +54,5 @@ module _ (s : List ℕ) where
         no-4 e = whole-yes 1 _ _ y1 ∙ whole-yes 2 _ _ y2 ∙ whole-yes 3 _ _ y3 ∙ whole-no 4 _ _ e
 
         pub yes-4 : ticksFit s ≡ true → answerTo (imageQuestions s) ≡ accepted
-        unfolding imageQuestions lengthFits laidOut ticksFit answerTo
-        yes-4 e = whole-yes 1 _ _ y1 ∙ whole-yes 2 _ _ y2 ∙ whole-yes 3 _ _ y3 ∙ whole-yes 4 _ _ e
+        unfolding imageQuestions lengthFits laidOut ticksFit
+        yes-4 e = whole-yes 1 _ _ y1 ∙ whole-yes 2 _ _ y2 ∙ whole-yes 3 _ _ y3 ∙ whole-yes 4 _ _ e ∙ none-asked

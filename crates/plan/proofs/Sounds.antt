@@ -1,0 +1,71 @@
+-- What questions 1 to 6 show: the image is sound (specs/Held).
+use Prim.Native.Nat.{ℕ, _+_, _*_, _≤_, _<_}
+use mathlib.Core.Path.{_≡_, refl, sym, ap, _∙_, subst}
+use mathlib.Core.List.{List, _∷_, []}
+use native.Mathlib.Omega.{arith}
+use lib.ListN.{length}
+use Rattle.plan.specs.declared.Table.{Table}
+use Rattle.plan.specs.declared.Table.the-variants.{Cores, Vcpus, Tasks, Windows, Pieces, Links, Streams, Frames, Buffers}
+use Rattle.plan.specs.Image.{tables, shape, rows, offset, tableEnd, trailerAt, trailerBytes, cycleTicks, precision}
+use Rattle.plan.specs.Reading.{AllHold, imageMeanings, whole, eachTable, Laid, Names, InRange}
+use Rattle.plan.specs.Held.{InImage, Sound}
+use Rattle.plan.proofs.Facts.{tableRows}
+
+module _ (s : List ℕ) where
+  -- each table's rows are in bounds, and it ends where the trailer begins, or before
+  abbrev Fit : Table → Type 0
+  Fit t = (rows s t ≤ shape t .most) × (tableEnd s t ≤ trailerAt s)
+
+  abbrev AllFit : List Table → Type 0
+  AllFit [] = Unit {0}
+  AllFit (t ∷ ts) = Fit t × AllFit ts
+
+  begins-low : (t : Table) → offset s t ≤ tableEnd s t
+  unfolding tableEnd
+  begins-low t = omega arith
+
+  fitted : (from : ℕ) (ts : List Table) → Laid s from ts → (from ≤ trailerAt s) × AllFit ts
+  fitted from [] h = (omega arith, tt)
+  fitted from (t ∷ ts) h =
+      let r = fitted (tableEnd s t) ts (h .2) in
+      (omega (arith, begins-low t, h .1, r .0), ((h .0, r .0), r .1))
+
+  table-fit : AllFit tables → (t : Table) → Fit t
+  unfolding tables
+  table-fit h Cores = h .0
+  table-fit h Vcpus = h .1 .0
+  table-fit h Tasks = h .1 .1 .0
+  table-fit h Windows = h .1 .1 .1 .0
+  table-fit h Pieces = h .1 .1 .1 .1 .0
+  table-fit h Links = h .1 .1 .1 .1 .1 .0
+  table-fit h Streams = h .1 .1 .1 .1 .1 .1 .0
+  table-fit h Frames = h .1 .1 .1 .1 .1 .1 .1 .0
+  table-fit h Buffers = h .1 .1 .1 .1 .1 .1 .1 .1 .0
+
+  trailer-low : trailerAt s ≤ length s
+  unfolding trailerAt
+  trailer-low = omega arith
+
+  pub in-image : AllHold (imageMeanings s) → InImage s
+  unfolding imageMeanings whole
+  in-image h =
+      let l = h .1 .1 .0 0 (omega arith) in
+      let f = table-fit (fitted 0 tables (l .1) .1) in
+      record {
+        trailer = h .0 0 (omega arith) .0;
+        counts = λ t. f t .0;
+        ends = λ t. let e = f t in let d = trailer-low in omega (arith, e .1);
+      }
+
+  pub sound : AllHold (imageMeanings s) → AllHold (eachTable s 5 tables (Names s)) → AllHold (eachTable s 6 tables (InRange s)) → Sound s
+  unfolding imageMeanings whole
+  sound h n r =
+      let c = h .1 .1 .1 .0 0 (omega arith) in
+      record {
+        inside = in-image h;
+        cycle = c .0;
+        cycle-most = c .1;
+        clocks = c .2;
+        names = tableRows s 5 (Names s) n;
+        ranges = tableRows s 6 (InRange s) r;
+      }

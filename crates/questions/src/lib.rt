@@ -1,0 +1,52 @@
+// The check (paper 01, "The questions"): every question over all its rows before the next.
+ghost use mathlib.Core.Path.{_≡_};
+ghost use Prim.Native.Nat.{_+_};
+ghost use mathlib.Core.List.{_++_};
+ghost use Rattle.plan.specs.Questions.{planQuestions, pieceQuestions, streamQuestions, bufferQuestions, answerTo, answerOf};
+ghost use Rattle.plan.specs.Held.{Sound, Passed};
+use plan::Answer;
+
+// Questions 14 to 24: with the times of all jobs at hand.
+fn ask_messages(image: &[u8]) -> Answer
+    requires { ⌜ Sound (now image) × Passed (pieceQuestions (now image)) 7 ⌝ }
+    ensures { λ r. ⌜ r ≡ answerTo (streamQuestions (now (image .entry)) ++ bufferQuestions (now (image .entry))) ⌝ }
+{
+    let mut times = [0u32; 4352];
+    jobs::gather(image, &mut times);
+    let streams = streams::ask(image, &times);
+    if streams.number != 0 {
+        return streams;
+    }
+    buffers::ask(image, &times)
+}
+
+// Questions 7 to 24.
+fn ask_plan(image: &[u8]) -> Answer
+    requires { ⌜ Sound (now image) ⌝ }
+    ensures { λ r. ⌜ r ≡ answerTo (planQuestions (now (image .entry))) ⌝ }
+{
+    let pieces = windows::ask(image);
+    if pieces.number != 0 {
+        return pieces;
+    }
+    ask_messages(image)
+}
+
+// The first question answered no, with its table and row; 0 0 0 where all are answered yes.
+pub fn check(image: &[u8]) -> Answer
+    ensures { λ r. ⌜ r ≡ answerOf (now (image .entry)) ⌝ }
+{
+    let whole = layout::ask_image(image);
+    if whole.number != 0 {
+        return whole;
+    }
+    let names = layout::ask_tables(image, 5);
+    if names.number != 0 {
+        return names;
+    }
+    let values = layout::ask_tables(image, 6);
+    if values.number != 0 {
+        return values;
+    }
+    ask_plan(image)
+}
