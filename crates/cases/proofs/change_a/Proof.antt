@@ -1,0 +1,134 @@
+use Rattle.cases.proofs.change_a.Statement.{statement}
+use Rattle.cases.proofs.change_a.Tie as tie
+use Rattle.cases.proofs.change_a.Reads as reads
+use Rattle.cases.proofs.change_a.Lts as lts
+use Rattle.cases.proofs.changed.Reads as changed-reads
+use Rattle.cases.proofs.put.Reads as put-reads
+
+abbrev Inv-loop : tie.InvT-loop
+Inv-loop image₀ k at place value second other i₀ image i = ?
+
+abbrev μ-loop : tie.MeasureT-loop
+μ-loop image₀ k at place value second other i₀ image i = ?
+
+-- src/main.rt:241:14
+mul-at : tie.Need-mul-at Inv-loop μ-loop
+mul-at c = ?
+
+-- src/main.rt:242:17
+mul-place : tie.Need-mul-place Inv-loop μ-loop
+mul-place c = ?
+
+-- src/main.rt:242:17
+array-read-place : tie.Need-array-read-place Inv-loop μ-loop
+array-read-place c = ?
+
+-- src/main.rt:243:27
+add-value : tie.Need-add-value Inv-loop μ-loop
+add-value c = ?
+
+-- src/main.rt:243:17
+mul-value : tie.Need-mul-value Inv-loop μ-loop
+mul-value c = ?
+
+-- src/main.rt:243:17
+array-read-value : tie.Need-array-read-value Inv-loop μ-loop
+array-read-value c = ?
+
+-- src/main.rt:244:28
+add-second : tie.Need-add-second Inv-loop μ-loop
+add-second c = ?
+
+-- src/main.rt:244:18
+mul-second : tie.Need-mul-second Inv-loop μ-loop
+mul-second c = ?
+
+-- src/main.rt:244:18
+array-read-second : tie.Need-array-read-second Inv-loop μ-loop
+array-read-second c = ?
+
+-- src/main.rt:245:27
+add-other : tie.Need-add-other Inv-loop μ-loop
+add-other c = ?
+
+-- src/main.rt:245:17
+mul-other : tie.Need-mul-other Inv-loop μ-loop
+mul-other c = ?
+
+-- src/main.rt:245:17
+array-read-other : tie.Need-array-read-other Inv-loop μ-loop
+array-read-other c = ?
+
+-- src/main.rt:247:5
+loop-holds : tie.Need-loop-holds Inv-loop μ-loop
+loop-holds c = ?
+
+-- src/main.rt:251:21
+mul-changed : tie.Need-mul-changed Inv-loop μ-loop
+mul-changed c = ?
+
+-- src/main.rt:251:21
+array-read-changed : tie.Need-array-read-changed Inv-loop μ-loop
+array-read-changed c = ?
+
+-- src/main.rt:251:32
+cast-changed : tie.Need-cast-changed Inv-loop μ-loop
+cast-changed c = ?
+
+-- src/main.rt:251:13
+changed-requires : tie.Need-changed-requires Inv-loop μ-loop
+changed-requires c κs = ?
+
+-- src/main.rt:248:9
+put-requires : tie.Need-put-requires Inv-loop μ-loop
+put-requires c κs = ?
+
+-- src/main.rt:253:9
+add-i : tie.Need-add-i Inv-loop μ-loop
+add-i c = ?
+
+-- src/main.rt:247:5
+loop-less : tie.Need-loop-less Inv-loop μ-loop
+loop-less c = ?
+
+-- src/main.rt:247:5
+loop-again : tie.Need-loop-again Inv-loop μ-loop
+loop-again c = ?
+
+-- src/main.rt:238:1
+same-length : tie.Need-same-length Inv-loop μ-loop
+same-length c = ?
+
+-- src/main.rt:238:1
+returns : tie.Need-returns Inv-loop μ-loop
+returns c = ?
+
+pub change-a-spec : {M : Type 1} → statement M
+change-a-spec =
+    tie.close
+    (tie.spec
+    Inv-loop
+    μ-loop
+    mul-at
+    mul-place
+    array-read-place
+    add-value
+    mul-value
+    array-read-value
+    add-second
+    mul-second
+    array-read-second
+    add-other
+    mul-other
+    array-read-other
+    loop-holds
+    mul-changed
+    array-read-changed
+    cast-changed
+    changed-requires
+    put-requires
+    add-i
+    loop-less
+    loop-again
+    same-length
+    returns)
