@@ -1,0 +1,4 @@
+pub mod Merging
+pub mod Rising
+pub mod Sides
+pub mod Asked

@@ -1,0 +1,53 @@
+-- The nine tables one after another: what the loops over them need.
+use Prim.Native.Nat.{ℕ, zero, suc, _+_, _≤_, _<_}
+use mathlib.Core.Path.{_≡_, refl, sym, ap, _∙_}
+use mathlib.Core.Bool.{Bool, true, false, _&&_}
+use mathlib.Core.List.{List, _∷_, []}
+use native.Mathlib.Numerals.{add-one}
+use native.Mathlib.Omega.{arith}
+use lib.Dec.{leb, eqb}
+use lib.ListN.{length, getD, drop}
+use lib.Seq.{drop-cons}
+use Rattle.plan.specs.declared.Table.{Table}
+use Rattle.plan.specs.declared.Table.the-variants.{Cores}
+use Rattle.plan.specs.Image.{tables, shape, offset, rows, tableEnd, trailerAt}
+use Rattle.plan.specs.Questions.{laid, Question, questionAt, each, eachTable}
+use Rattle.plan.proofs.Asking.{between}
+use Rattle.layout.specs.Tests.{tableFits, tableAt}
+
+nine : length tables ≡ 9
+unfolding tables
+nine = refl
+
+tables-from : (i : ℕ) → i < 9 → drop i tables ≡ tableAt i ∷ drop (i + 1) tables
+unfolding tableAt
+tables-from i l = drop-cons tables i Cores (rw nine l) ∙ (rw add-one refl)
+
+module _ (s : List ℕ) (from i : ℕ) (l : i < 9) where
+  -- 3, at table i
+  pub laid-on : tableFits s (tableAt i) from ≡ true → laid s from (drop i tables) ≡ laid s (tableEnd s (tableAt i)) (drop (i + 1) tables)
+  unfolding laid tableFits
+  laid-on h = rw (tables-from i l, laid, h) refl
+
+  pub laid-no : tableFits s (tableAt i) from ≡ false → laid s from (drop i tables) ≡ false
+  unfolding laid tableFits
+  laid-no h = rw (tables-from i l, laid, h) refl
+
+pub laid-end : (s : List ℕ) (from i : ℕ) → i ≡ 9 → laid s from (drop i tables) ≡ eqb from (trailerAt s)
+unfolding laid tables
+laid-end s from i e = rw e refl
+
+-- 5 and 6: question i of the list is the one over table i
+pub asked-table : (s : List ℕ) (n : ℕ) (ok : Table → ℕ → Bool) (i : ℕ) → i < 9
+    → questionAt (eachTable s n tables ok) i ≡ each s n (tableAt i) (ok (tableAt i))
+unfolding questionAt eachTable tables tableAt
+asked-table s n ok i l =
+    between (λ j. questionAt (eachTable s n tables ok) j ≡ each s n (tableAt j) (ok (tableAt j))) 0 9
+    (refl, (refl, (refl, (refl, (refl, (refl, (refl, (refl, (refl, tt)))))))))
+    i
+    (omega arith)
+    (omega arith)
+
+pub nine-asked : (s : List ℕ) (n : ℕ) (ok : Table → ℕ → Bool) → length (eachTable s n tables ok) ≡ 9
+unfolding eachTable tables
+nine-asked s n ok = refl

@@ -1,0 +1,30 @@
+use borrow.Author.Tests.{ne-eqb}
+use Rattle.layout.specs.Tests.{rowTest}
+use borrow.Author.Needs.{needs}
+use Rattle.layout.proofs.passes.Statement.{statement}
+use Rattle.layout.proofs.passes.Tie as tie
+use Rattle.layout.proofs.passes.Reads as reads
+use Rattle.layout.proofs.passes.Lts as lts
+use Rattle.layout.proofs.row_names.Reads as row-names-reads
+use Rattle.layout.proofs.row_range.Reads as row-range-reads
+
+-- src/lib.rt:292:9
+row-names-requires : tie.Need-row-names-requires
+row-names-requires c κs = search needs
+
+-- src/lib.rt:294:9
+row-range-requires : tie.Need-row-range-requires
+row-range-requires c κs = search needs
+
+-- src/lib.rt:287:1
+returns : tie.Need-returns
+unfolding rowTest
+returns c = rw (c .before .if1 .taken) (c .row-names .ensures)
+
+-- src/lib.rt:287:1
+returns-2 : tie.Need-returns-2
+unfolding rowTest
+returns-2 c = rw (ne-eqb _ 5 (c .before .if1 .left)) (c .row-range .ensures)
+
+pub passes-spec : {M : Type 1} → statement M
+passes-spec = tie.close (tie.spec row-names-requires row-range-requires returns returns-2)

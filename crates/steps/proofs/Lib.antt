@@ -1,0 +1,4 @@
+pub mod Branch
+pub mod Deciding
+pub mod Reading
+pub mod Records
