@@ -4,7 +4,7 @@ ghost use Prim.Native.Nat.{_-_, _<_, _≤_};
 ghost use Rattle.plan.specs.declared.Table.the-variants.{Streams, Frames};
 ghost use Rattle.plan.specs.Image.{rows};
 ghost use Rattle.plan.specs.Search.{count};
-ghost use Rattle.plan.specs.Held.{Sound, Passed, refusing};
+ghost use Rattle.plan.specs.Held.{Sound, refusing};
 ghost use Rattle.plan.specs.Questions.{streamEnds, frameFits, ofHop, frameOf, oneFrame, joined, hopWaits, frameApart, frameClear};
 ghost use Rattle.plan.specs.Questions.{messageWaits, inTime, eachJob, questionAt, streamQuestions, answerTo};
 ghost use Rattle.jobs.specs.Times.{Timed};
@@ -96,7 +96,7 @@ fn one_frame(image: &[u8], stream: u32, job: u32) -> bool
     true
 }
 
-// The row of that one frame.
+// The row of that one frame: the lowest such row, 0 for none.
 fn frame_of(image: &[u8], stream: u32, job: u32, hop: u32) -> u32
     requires { ⌜ Sound (now image) ⌝ }
     ensures { λ r. ⌜ r ≡ frameOf (now (image .entry)) stream job hop ⌝ }

@@ -13,11 +13,6 @@ use Rattle.plan.specs.Questions.{eachJob}
 use Rattle.streams.specs.Framing.{jobAsked}
 use Rattle.streams.proofs.each_job.Statement.{statement}
 use Rattle.streams.proofs.each_job.Tie as tie
-use Rattle.streams.proofs.each_job.Reads as reads
-use Rattle.streams.proofs.each_job.Lts as lts
-use Rattle.streams.proofs.job_passes.Reads as job-passes-reads
-use Rattle.tables.proofs.stream_at.Reads as stream-at-reads
-use Rattle.terms.proofs.jobs_of.Reads as jobs-of-reads
 
 abbrev Inv-loop : tie.InvT-loop
 Inv-loop image times number stream jobs job₀ job = (job ≤ jobs) × (all job (jobAsked image number stream) ≡ true)
@@ -25,41 +20,32 @@ Inv-loop image times number stream jobs job₀ job = (job ≤ jobs) × (all job 
 abbrev μ-loop : tie.MeasureT-loop
 μ-loop image times number stream jobs job₀ job = jobs - job
 
--- src/lib.rt:219:31
 stream-at-requires : tie.Need-stream-at-requires Inv-loop μ-loop
 stream-at-requires c κs = let p = c .before .before .pre in (p .0 .sound .inside, p .1 .1)
 
--- src/lib.rt:219:9
 jobs-of-requires : tie.Need-jobs-of-requires Inv-loop μ-loop
 jobs-of-requires c κs = let a = c .before .before .before .args in let p = c .before .before .before .pre in (p .0 .sound, rw (c .stream-at .ensures) (p .0 .sound .names Streams (a .stream) (p .1 .1) .0))
 
--- src/lib.rt:221:5
 loop-holds : tie.Need-loop-holds Inv-loop μ-loop
 unfolding all
 loop-holds c = (omega arith, refl)
 
--- src/lib.rt:222:13
 job-passes-requires : tie.Need-job-passes-requires Inv-loop μ-loop
 job-passes-requires c κs = let a = c .before .before .before .before .before .before .args in let s = a .image .now in let l = c .before .loop in let n = Rattle.plan.specs.Questions.jobs s (stream s (a .stream) .sender) in let g : c .before .before .jobs-of .result ≡ n = c .before .before .jobs-of .ensures ∙ ap (λ (x : Stream). Rattle.plan.specs.Questions.jobs s (x .sender)) (c .before .before .before .stream-at .ensures) in let t = jobAsked s (a .number) (a .stream) in let p = c .before .before .before .before .before .before .pre in (p .0, (p .1 .0, record { row = p .1 .1; job = omega arith }))
 
--- src/lib.rt:223:13
 returns : tie.Need-returns Inv-loop μ-loop
 unfolding eachJob
 returns c = let a = c .before .before .before .before .before .before .before .before .args in let s = a .image .now in let l = c .before .before .before .loop in let n = Rattle.plan.specs.Questions.jobs s (stream s (a .stream) .sender) in let g : c .before .before .before .before .jobs-of .result ≡ n = c .before .before .before .before .jobs-of .ensures ∙ ap (λ (x : Stream). Rattle.plan.specs.Questions.jobs s (x .sender)) (c .before .before .before .before .before .stream-at .ensures) in let t = jobAsked s (a .number) (a .stream) in sym (all-stops t n (l .job) (omega arith) (sym (c .before .job-passes .ensures) ∙ not-true _ (c .if1 .taken)))
 
--- src/lib.rt:225:9
 add-job : tie.Need-add-job Inv-loop μ-loop
 add-job c = omega arith
 
--- src/lib.rt:221:5
 loop-less : tie.Need-loop-less Inv-loop μ-loop
 loop-less c = omega arith
 
--- src/lib.rt:221:5
 loop-again : tie.Need-loop-again Inv-loop μ-loop
 loop-again c = let a = c .before .before .before .before .before .before .before .before .args in let s = a .image .now in let l = c .before .before .before .loop in let n = Rattle.plan.specs.Questions.jobs s (stream s (a .stream) .sender) in let g : c .before .before .before .before .jobs-of .result ≡ n = c .before .before .before .before .jobs-of .ensures ∙ ap (λ (x : Stream). Rattle.plan.specs.Questions.jobs s (x .sender)) (c .before .before .before .before .before .stream-at .ensures) in let t = jobAsked s (a .number) (a .stream) in (omega arith, rw (add-one (l .job)) (all-turn t (l .job) (l .inv .1) (sym (c .before .job-passes .ensures) ∙ not-false _ (c .if1 .left))))
 
--- src/lib.rt:215:1
 returns-2 : tie.Need-returns-2 Inv-loop μ-loop
 unfolding eachJob
 returns-2 c = let a = c .before .before .before .before .before .before .args in let s = a .image .now in let l = c .before .loop in let n = Rattle.plan.specs.Questions.jobs s (stream s (a .stream) .sender) in let g : c .before .before .jobs-of .result ≡ n = c .before .before .jobs-of .ensures ∙ ap (λ (x : Stream). Rattle.plan.specs.Questions.jobs s (x .sender)) (c .before .before .before .stream-at .ensures) in let t = jobAsked s (a .number) (a .stream) in let e : l .job ≡ n = omega arith in sym (subst (λ (x : ℕ). all x t ≡ true) e (l .inv .1))

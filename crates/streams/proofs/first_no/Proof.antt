@@ -11,11 +11,6 @@ use Rattle.plan.proofs.Searching.{turn-yes, stops}
 use Rattle.streams.proofs.Asked.{asked}
 use Rattle.streams.proofs.first_no.Statement.{statement}
 use Rattle.streams.proofs.first_no.Tie as tie
-use Rattle.streams.proofs.first_no.Reads as reads
-use Rattle.streams.proofs.first_no.Lts as lts
-use Rattle.streams.proofs.passes.Reads as passes-reads
-use Rattle.streams.proofs.table_of.Reads as table-of-reads
-use Rattle.tables.proofs.rows_of.Reads as rows-of-reads
 
 abbrev Inv-loop : tie.InvT-loop
 Inv-loop image times number n row₀ row = (row ≤ n) × (firstNo row (questionAt (streamQuestions image) (number - 14) .ok) ≡ Nothing)
@@ -23,40 +18,31 @@ Inv-loop image times number n row₀ row = (row ≤ n) × (firstNo row (question
 abbrev μ-loop : tie.MeasureT-loop
 μ-loop image times number n row₀ row = n - row
 
--- src/lib.rt:262:31
 table-of-requires : tie.Need-table-of-requires Inv-loop μ-loop
 table-of-requires c κs = tt
 
--- src/lib.rt:262:9
 rows-of-requires : tie.Need-rows-of-requires Inv-loop μ-loop
 rows-of-requires c κs = c .before .before .before .pre .sound .inside .trailer
 
--- src/lib.rt:264:5
 loop-holds : tie.Need-loop-holds Inv-loop μ-loop
 unfolding firstNo
 loop-holds c = (omega arith, refl)
 
--- src/lib.rt:265:13
 passes-requires : tie.Need-passes-requires Inv-loop μ-loop
 passes-requires c κs = let l = c .before .loop in let a = c .before .before .before .before .before .before .args in let p = c .before .before .before .before .before .before .pre in let s = a .image .now in let q = questionAt (streamQuestions s) (a .number - 14) in let g : c .before .before .rows-of .result ≡ q .many = c .before .before .rows-of .ensures ∙ ap (rows s) (c .before .before .before .table-of .ensures) ∙ sym (asked s (a .number) (p .from) (p .to) .many) in (p, rw (← g) (c .loop-test .taken))
 
--- src/lib.rt:266:13
 returns : tie.Need-returns Inv-loop μ-loop
 returns c = let l = c .before .before .before .loop in let a = c .before .before .before .before .before .before .before .before .args in let p = c .before .before .before .before .before .before .before .before .pre in let s = a .image .now in let q = questionAt (streamQuestions s) (a .number - 14) in let g : c .before .before .before .before .rows-of .result ≡ q .many = c .before .before .before .before .rows-of .ensures ∙ ap (rows s) (c .before .before .before .before .before .table-of .ensures) ∙ sym (asked s (a .number) (p .from) (p .to) .many) in sym (stops (q .ok) (q .many) (l .row) (l .inv .1) (rw (← g) (c .before .before .loop-test .taken)) (sym (c .before .passes .ensures) ∙ not-true _ (c .if1 .taken)))
 
--- src/lib.rt:268:9
 add-row : tie.Need-add-row Inv-loop μ-loop
 add-row c = omega arith
 
--- src/lib.rt:264:5
 loop-less : tie.Need-loop-less Inv-loop μ-loop
 loop-less c = omega arith
 
--- src/lib.rt:264:5
 loop-again : tie.Need-loop-again Inv-loop μ-loop
 loop-again c = let l = c .before .before .before .loop in let a = c .before .before .before .before .before .before .before .before .args in let p = c .before .before .before .before .before .before .before .before .pre in let s = a .image .now in let q = questionAt (streamQuestions s) (a .number - 14) in let g : c .before .before .before .before .rows-of .result ≡ q .many = c .before .before .before .before .rows-of .ensures ∙ ap (rows s) (c .before .before .before .before .before .table-of .ensures) ∙ sym (asked s (a .number) (p .from) (p .to) .many) in (omega arith, rw (add-one (l .row)) (turn-yes (q .ok) (l .row) (l .inv .1) (sym (c .before .passes .ensures) ∙ not-false _ (c .if1 .left))))
 
--- src/lib.rt:258:1
 returns-2 : tie.Need-returns-2 Inv-loop μ-loop
 returns-2 c = let l = c .before .loop in let a = c .before .before .before .before .before .before .args in let p = c .before .before .before .before .before .before .pre in let s = a .image .now in let q = questionAt (streamQuestions s) (a .number - 14) in let g : c .before .before .rows-of .result ≡ q .many = c .before .before .rows-of .ensures ∙ ap (rows s) (c .before .before .before .table-of .ensures) ∙ sym (asked s (a .number) (p .from) (p .to) .many) in let e : l .row ≡ q .many = omega arith in sym (subst (λ (n : ℕ). firstNo n (q .ok) ≡ Nothing) e (l .inv .1))
 

@@ -9,9 +9,6 @@ use Rattle.plan.specs.Questions.{frameApart, frameClear}
 use Rattle.plan.proofs.Searching.{all-turn, all-stops}
 use Rattle.streams.proofs.frame_clear.Statement.{statement}
 use Rattle.streams.proofs.frame_clear.Tie as tie
-use Rattle.streams.proofs.frame_clear.Reads as reads
-use Rattle.streams.proofs.frame_clear.Lts as lts
-use Rattle.streams.proofs.frames_apart.Reads as frames-apart-reads
 
 abbrev Inv-loop : tie.InvT-loop
 Inv-loop image frame lower₀ lower = (lower ≤ frame) × (all lower (λ q. frameApart image q frame) ≡ true)
@@ -19,33 +16,26 @@ Inv-loop image frame lower₀ lower = (lower ≤ frame) × (all lower (λ q. fra
 abbrev μ-loop : tie.MeasureT-loop
 μ-loop image frame lower₀ lower = frame - lower
 
--- src/lib.rt:158:5
 loop-holds : tie.Need-loop-holds Inv-loop μ-loop
 unfolding all
 loop-holds c = (omega arith, refl)
 
--- src/lib.rt:159:13
 frames-apart-requires : tie.Need-frames-apart-requires Inv-loop μ-loop
 frames-apart-requires c κs = let p = c .before .before .before .pre in (p .0, (omega arith, p .1))
 
--- src/lib.rt:160:13
 returns : tie.Need-returns Inv-loop μ-loop
 unfolding frameClear clear
 returns c = let b = c .before in let l = b .before .before .loop in let a = b .before .before .before .before .args in sym (all-stops (λ q. frameApart (a .image .now) q (a .frame)) (a .frame) (l .lower) (b .before .loop-test .taken) (sym (b .frames-apart .ensures) ∙ not-true _ (c .if1 .taken)))
 
--- src/lib.rt:162:9
 add-lower : tie.Need-add-lower Inv-loop μ-loop
 add-lower c = omega arith
 
--- src/lib.rt:158:5
 loop-less : tie.Need-loop-less Inv-loop μ-loop
 loop-less c = omega arith
 
--- src/lib.rt:158:5
 loop-again : tie.Need-loop-again Inv-loop μ-loop
 loop-again c = let b = c .before in let l = b .before .before .loop in let a = b .before .before .before .before .args in (omega arith, rw add-one (all-turn (λ q. frameApart (a .image .now) q (a .frame)) (l .lower) (l .inv .1) (sym (b .frames-apart .ensures) ∙ not-false _ (c .if1 .left))))
 
--- src/lib.rt:153:1
 returns-2 : tie.Need-returns-2 Inv-loop μ-loop
 unfolding frameClear clear
 returns-2 c = let l = c .before .loop in let a = c .before .before .before .args in let e : a .frame ≡ l .lower = omega arith in sym (subst (λ (n : ℕ). all n (λ q. frameApart (a .image .now) q (a .frame)) ≡ true) (sym e) (l .inv .1))

@@ -11,10 +11,6 @@ use Rattle.plan.proofs.Searching.{turn-yes}
 use Rattle.streams.proofs.Framing.{other, found-at, found-none}
 use Rattle.streams.proofs.frame_of.Statement.{statement}
 use Rattle.streams.proofs.frame_of.Tie as tie
-use Rattle.streams.proofs.frame_of.Reads as reads
-use Rattle.streams.proofs.frame_of.Lts as lts
-use Rattle.streams.proofs.is_of_hop.Reads as is-of-hop-reads
-use Rattle.tables.proofs.rows_of.Reads as rows-of-reads
 
 abbrev Inv-loop : tie.InvT-loop
 Inv-loop image stream job hop frames frame₀ frame = (frame ≤ frames) × (firstNo frame (other image stream job hop) ≡ Nothing)
@@ -22,36 +18,28 @@ Inv-loop image stream job hop frames frame₀ frame = (frame ≤ frames) × (fir
 abbrev μ-loop : tie.MeasureT-loop
 μ-loop image stream job hop frames frame₀ frame = frames - frame
 
--- src/lib.rt:95:9
 rows-of-requires : tie.Need-rows-of-requires Inv-loop μ-loop
 rows-of-requires c κs = c .before .pre .inside .trailer
 
--- src/lib.rt:97:5
 loop-holds : tie.Need-loop-holds Inv-loop μ-loop
 unfolding firstNo
 loop-holds c = (omega arith, refl)
 
--- src/lib.rt:98:12
 is-of-hop-requires : tie.Need-is-of-hop-requires Inv-loop μ-loop
 is-of-hop-requires c κs = let g = c .before .before .rows-of .ensures in (c .before .before .before .before .pre, omega arith)
 
--- src/lib.rt:99:13
 returns : tie.Need-returns Inv-loop μ-loop
 returns c = let b = c .before in let l = b .before .before .loop in let g = b .before .before .before .rows-of .ensures in let a = b .before .before .before .before .before .args in let s = a .image .now in found-at s (a .stream) (a .job) (a .hop) (l .frame) (l .inv .1) (omega arith) (sym (b .is-of-hop .ensures) ∙ c .if1 .taken)
 
--- src/lib.rt:101:9
 add-frame : tie.Need-add-frame Inv-loop μ-loop
 add-frame c = omega arith
 
--- src/lib.rt:97:5
 loop-less : tie.Need-loop-less Inv-loop μ-loop
 loop-less c = omega arith
 
--- src/lib.rt:97:5
 loop-again : tie.Need-loop-again Inv-loop μ-loop
 loop-again c = let b = c .before in let l = b .before .before .loop in let g = b .before .before .before .rows-of .ensures in let a = b .before .before .before .before .before .args in let s = a .image .now in (omega arith, rw add-one (turn-yes (other s (a .stream) (a .job) (a .hop)) (l .frame) (l .inv .1) (ap not (sym (b .is-of-hop .ensures) ∙ c .if1 .left))))
 
--- src/lib.rt:91:1
 returns-2 : tie.Need-returns-2 Inv-loop μ-loop
 returns-2 c = let l = c .before .loop in let a = c .before .before .before .before .args in let s = a .image .now in let g = c .before .before .rows-of .ensures in let e : l .frame ≡ rows s Frames = omega arith in found-none s (a .stream) (a .job) (a .hop) (subst (λ (n : ℕ). firstNo n (other s (a .stream) (a .job) (a .hop)) ≡ Nothing) e (l .inv .1))
 

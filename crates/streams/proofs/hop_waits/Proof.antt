@@ -1,4 +1,4 @@
-use mathlib.Core.Path.{_≡_, refl, sym, ap, subst, _∙_}
+use mathlib.Core.Path.{refl, sym, ap, _∙_}
 use native.Mathlib.Omega.{arith}
 use borrow.Author.Tests.{eq-eqb, ne-eqb}
 use Rattle.plan.specs.declared.Frame.{Frame}
@@ -7,38 +7,26 @@ use Rattle.streams.proofs.Framing.{frame-exists, job-of, hop-of}
 use borrow.Author.Needs.{needs}
 use Rattle.streams.proofs.hop_waits.Statement.{statement}
 use Rattle.streams.proofs.hop_waits.Tie as tie
-use Rattle.streams.proofs.hop_waits.Reads as reads
-use Rattle.streams.proofs.hop_waits.Lts as lts
-use Rattle.streams.proofs.frame_of.Reads as frame-of-reads
-use Rattle.tables.proofs.frame_at.Reads as frame-at-reads
-use Rattle.terms.proofs.across_at.Reads as across-at-reads
 
--- src/lib.rt:131:9
 frame-at-requires : tie.Need-frame-at-requires
 frame-at-requires c κs = search needs
 
--- src/lib.rt:133:9
 returns : tie.Need-returns
 unfolding hopWaits
 returns c = let f = c .before .before .frame-at .ensures in let e = ap (λ (x : Frame). x .hop) f in rw (eq-eqb _ 0 (sym e ∙ c .if1 .taken)) refl
 
--- src/lib.rt:135:53
 sub-frame-of : tie.Need-sub-frame-of
 sub-frame-of c = search needs
 
--- src/lib.rt:135:9
 frame-of-requires : tie.Need-frame-of-requires
 frame-of-requires c κs = search needs
 
--- src/lib.rt:136:5
 across-at-requires : tie.Need-across-at-requires
 across-at-requires c κs = let a = c .before .before .before .before .before .before .args in let p = c .before .before .before .before .before .before .pre in let f = c .before .before .before .before .frame-at .ensures in let s = a .image .now in (p .0 .sound, rw (c .frame-of .ensures, f) (frame-exists s (p .0) _ _ _ (job-of s (p .0) (a .frame) (p .1)) (omega (arith, hop-of s (p .0) (a .frame) (p .1)))))
 
--- src/lib.rt:136:35
 cast-result : tie.Need-cast-result
 cast-result c = search needs
 
--- src/lib.rt:127:1
 returns-2 : tie.Need-returns-2
 unfolding hopWaits
 returns-2 c = let f = c .before .before .before .before .before .before .frame-at .ensures in let e = ap (λ (x : Frame). x .hop) f in rw (ne-eqb _ 0 (λ z. c .before .before .before .before .if1 .left (e ∙ z)), c .before .across-at .ensures, c .before .before .frame-of .ensures, f) refl

@@ -4,59 +4,40 @@ use Rattle.streams.proofs.Framing.{receiver-job}
 use borrow.Author.Needs.{needs}
 use Rattle.streams.proofs.in_time.Statement.{statement}
 use Rattle.streams.proofs.in_time.Tie as tie
-use Rattle.streams.proofs.in_time.Reads as reads
-use Rattle.streams.proofs.in_time.Lts as lts
-use Rattle.jobs.proofs.first_start.Reads as first-start-reads
-use Rattle.jobs.proofs.last_end.Reads as last-end-reads
-use Rattle.tables.proofs.precision_ticks.Reads as precision-ticks-reads
-use Rattle.tables.proofs.stream_at.Reads as stream-at-reads
-use Rattle.terms.proofs.limit_of.Reads as limit-of-reads
 
--- src/lib.rt:195:9
 stream-at-requires : tie.Need-stream-at-requires
 stream-at-requires c κs = search needs
 
--- src/lib.rt:196:15
 last-end-requires : tie.Need-last-end-requires
 last-end-requires c κs = let a = c .before .before .before .args in let p = c .before .before .before .pre in let s = a .image .now in (p .0, (rw (c .stream-at .ensures) (p .1 .0 .sound .names Streams (a .stream) (p .1 .1 .row) .1), rw (c .stream-at .ensures) (receiver-job s (p .1 .0) (a .stream) (a .job) (p .1 .1))))
 
--- src/lib.rt:196:15
 cast-end : tie.Need-cast-end
 cast-end c = search needs
 
--- src/lib.rt:196:64
 precision-ticks-requires : tie.Need-precision-ticks-requires
 precision-ticks-requires c κs = search needs
 
--- src/lib.rt:196:64
 cast-end-2 : tie.Need-cast-end-2
 cast-end-2 c = search needs
 
--- src/lib.rt:196:15
 add-end : tie.Need-add-end
 add-end c = search needs
 
--- src/lib.rt:197:17
 first-start-requires : tie.Need-first-start-requires
 first-start-requires c κs = let a = c .before .before .before .before .before .args in let p = c .before .before .before .before .before .pre in let s = a .image .now in (p .0, (rw (c .before .before .stream-at .ensures) (p .1 .0 .sound .names Streams (a .stream) (p .1 .1 .row) .0), rw (c .before .before .stream-at .ensures) (p .1 .1 .job)))
 
--- src/lib.rt:197:17
 cast-start : tie.Need-cast-start
 cast-start c = search needs
 
--- src/lib.rt:198:12
 limit-of-requires : tie.Need-limit-of-requires
 limit-of-requires c κs = search needs
 
--- src/lib.rt:198:12
 cast-result : tie.Need-cast-result
 cast-result c = search needs
 
--- src/lib.rt:198:12
 add-result : tie.Need-add-result
 add-result c = search needs
 
--- src/lib.rt:191:1
 returns : tie.Need-returns
 unfolding inTime
 returns c = cc

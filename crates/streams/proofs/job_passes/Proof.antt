@@ -1,4 +1,3 @@
-use mathlib.Core.Path.{_≡_, refl, sym, ap, subst, _∙_}
 use native.Mathlib.Omega.{arith}
 use borrow.Author.Tests.{ne-eqb}
 use Rattle.streams.specs.Framing.{jobAsked}
@@ -6,45 +5,31 @@ use Rattle.streams.proofs.Asked.{framed-at, above}
 use borrow.Author.Needs.{needs}
 use Rattle.streams.proofs.job_passes.Statement.{statement}
 use Rattle.streams.proofs.job_passes.Tie as tie
-use Rattle.streams.proofs.job_passes.Reads as reads
-use Rattle.streams.proofs.job_passes.Lts as lts
-use Rattle.streams.proofs.hops_joined.Reads as hops-joined-reads
-use Rattle.streams.proofs.in_time.Reads as in-time-reads
-use Rattle.streams.proofs.message_waits.Reads as message-waits-reads
-use Rattle.streams.proofs.one_frame.Reads as one-frame-reads
 
--- src/lib.rt:207:15
 one-frame-requires : tie.Need-one-frame-requires
 one-frame-requires c κs = search needs
 
--- src/lib.rt:208:15
 hops-joined-requires : tie.Need-hops-joined-requires
 hops-joined-requires c κs = let a = c .before .before .before .args in let p = c .before .before .before .pre in let s = a .image .now in let t = a .times .now in let e = c .match .keys2 in (framed-at s t (a .number) (p .0) (omega arith), p .1 .1)
 
--- src/lib.rt:209:15
 message-waits-requires : tie.Need-message-waits-requires
 message-waits-requires c κs = let a = c .before .before .before .args in let p = c .before .before .before .pre in let s = a .image .now in let t = a .times .now in let e = c .match .keys3 in (p .0 .timed, (framed-at s t (a .number) (p .0) (omega arith), p .1 .1))
 
--- src/lib.rt:210:14
 in-time-requires : tie.Need-in-time-requires
 in-time-requires c κs = let a = c .before .before .before .args in let p = c .before .before .before .pre in let s = a .image .now in let t = a .times .now in let r = c .match .rest in (p .0 .timed, (framed-at s t (a .number) (p .0) (above (a .number) 16 (p .1 .0) (r .0 .0 .1)), p .1 .1))
 
--- src/lib.rt:202:1
 returns : tie.Need-returns
 unfolding jobAsked
 returns c = rw (c .before .match .keys1) (c .one-frame .ensures)
 
--- src/lib.rt:202:1
 returns-2 : tie.Need-returns-2
 unfolding jobAsked
 returns-2 c = rw (c .before .match .keys2) (c .hops-joined .ensures)
 
--- src/lib.rt:202:1
 returns-3 : tie.Need-returns-3
 unfolding jobAsked
 returns-3 c = rw (c .before .match .keys3) (c .message-waits .ensures)
 
--- src/lib.rt:202:1
 returns-4 : tie.Need-returns-4
 unfolding jobAsked
 returns-4 c = let n = c .before .before .before .before .args .number in let r = c .before .match .rest in rw (ne-eqb n 16 (r .0 .0 .1), ne-eqb n 17 (r .0 .1), ne-eqb n 20 (r .1)) (c .in-time .ensures)

@@ -7,52 +7,34 @@ use Rattle.streams.proofs.Framing.{receiver-job, frame-exists}
 use borrow.Author.Needs.{needs}
 use Rattle.streams.proofs.message_waits.Statement.{statement}
 use Rattle.streams.proofs.message_waits.Tie as tie
-use Rattle.streams.proofs.message_waits.Reads as reads
-use Rattle.streams.proofs.message_waits.Lts as lts
-use Rattle.jobs.proofs.first_start.Reads as first-start-reads
-use Rattle.jobs.proofs.last_end.Reads as last-end-reads
-use Rattle.streams.proofs.frame_of.Reads as frame-of-reads
-use Rattle.tables.proofs.frame_at.Reads as frame-at-reads
-use Rattle.tables.proofs.stream_at.Reads as stream-at-reads
-use Rattle.terms.proofs.across_at.Reads as across-at-reads
 
--- src/lib.rt:182:9
 stream-at-requires : tie.Need-stream-at-requires
 stream-at-requires c κs = search needs
 
--- src/lib.rt:183:9
 frame-of-requires : tie.Need-frame-of-requires
 frame-of-requires c κs = search needs
 
--- src/lib.rt:184:45
 sub-frame-of : tie.Need-sub-frame-of
 sub-frame-of c = let a = c .before .before .before .before .before .args in let p = c .before .before .before .before .before .pre in rw (c .before .before .stream-at .ensures) (p .1 .0 .sound .ranges Streams (a .stream) (p .1 .1 .row) .2)
 
--- src/lib.rt:184:9
 frame-of-requires-2 : tie.Need-frame-of-requires-2
 frame-of-requires-2 c κs = search needs
 
--- src/lib.rt:185:16
 last-end-requires : tie.Need-last-end-requires
 last-end-requires c κs = let a = c .before .before .before .before .before .before .args in let p = c .before .before .before .before .before .before .pre in let s = a .image .now in (p .0, (rw (c .before .before .before .stream-at .ensures) (p .1 .0 .sound .names Streams (a .stream) (p .1 .1 .row) .0), rw (c .before .before .before .stream-at .ensures) (p .1 .1 .job)))
 
--- src/lib.rt:185:57
 frame-at-requires : tie.Need-frame-at-requires
 frame-at-requires c κs = let a = c .before .before .before .before .before .before .before .args in let p = c .before .before .before .before .before .before .before .pre in let s = a .image .now in let r = p .1 .0 .sound .ranges Streams (a .stream) (p .1 .1 .row) in (p .1 .0 .sound .inside, rw (c .before .before .before .frame-of .ensures) (frame-exists s (p .1 .0) (a .stream) (a .job) 0 (p .1 .1) (r .2)))
 
--- src/lib.rt:186:16
 across-at-requires : tie.Need-across-at-requires
 across-at-requires c κs = let a = c .before .before .before .before .before .before .before .before .before .args in let p = c .before .before .before .before .before .before .before .before .before .pre in let s = a .image .now in let r = p .1 .0 .sound .ranges Streams (a .stream) (p .1 .1 .row) in (p .1 .0 .sound, rw (c .before .before .before .frame-of2 .ensures, c .before .before .before .before .before .before .stream-at .ensures) (frame-exists s (p .1 .0) (a .stream) (a .job) (stream s (a .stream) .hops - 1) (p .1 .1) (omega (arith, r .2))))
 
--- src/lib.rt:186:42
 first-start-requires : tie.Need-first-start-requires
 first-start-requires c κs = let a = c .before .before .before .before .before .before .before .before .before .before .args in let p = c .before .before .before .before .before .before .before .before .before .before .pre in let s = a .image .now in (p .0, (rw (c .before .before .before .before .before .before .before .stream-at .ensures) (p .1 .0 .sound .names Streams (a .stream) (p .1 .1 .row) .1), rw (c .before .before .before .before .before .before .before .stream-at .ensures) (receiver-job s (p .1 .0) (a .stream) (a .job) (p .1 .1))))
 
--- src/lib.rt:186:42
 cast-read : tie.Need-cast-read
 cast-read c = search needs
 
--- src/lib.rt:178:1
 returns : tie.Need-returns
 unfolding messageWaits
 returns c = cc

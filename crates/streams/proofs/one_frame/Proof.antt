@@ -12,10 +12,6 @@ use Rattle.plan.specs.Questions.{oneFrame}
 use Rattle.streams.proofs.Framing.{once}
 use Rattle.streams.proofs.one_frame.Statement.{statement}
 use Rattle.streams.proofs.one_frame.Tie as tie
-use Rattle.streams.proofs.one_frame.Reads as reads
-use Rattle.streams.proofs.one_frame.Lts as lts
-use Rattle.streams.proofs.hop_count.Reads as hop-count-reads
-use Rattle.tables.proofs.stream_at.Reads as stream-at-reads
 
 abbrev Inv-loop : tie.InvT-loop
 Inv-loop image stream job hops hop₀ hop = (hop ≤ hops) × (all hop (once image stream job) ≡ true)
@@ -23,37 +19,29 @@ Inv-loop image stream job hops hop₀ hop = (hop ≤ hops) × (all hop (once ima
 abbrev μ-loop : tie.MeasureT-loop
 μ-loop image stream job hops hop₀ hop = hops - hop
 
--- src/lib.rt:79:16
 stream-at-requires : tie.Need-stream-at-requires Inv-loop μ-loop
 stream-at-requires c κs = let p = c .before .pre in (p .0 .inside, p .1)
 
--- src/lib.rt:81:5
 loop-holds : tie.Need-loop-holds Inv-loop μ-loop
 unfolding all
 loop-holds c = (omega arith, refl)
 
--- src/lib.rt:82:12
 hop-count-requires : tie.Need-hop-count-requires Inv-loop μ-loop
 hop-count-requires c κs = c .before .before .before .before .pre .0
 
--- src/lib.rt:83:13
 returns : tie.Need-returns Inv-loop μ-loop
 unfolding oneFrame
 returns c = let b = c .before in let l = b .before .before .loop in let g = ap (λ (x : Stream). x .hops) (b .before .before .before .stream-at .ensures) in let a = b .before .before .before .before .before .args in let s = a .image .now in let t = once s (a .stream) (a .job) in sym (all-stops t (stream s (a .stream) .hops) (l .hop) (omega arith) (ne-eqb _ 1 (λ e. let z : b .hop-count .result ≡ 1 = b .hop-count .ensures ∙ e in omega arith)))
 
--- src/lib.rt:85:9
 add-hop : tie.Need-add-hop Inv-loop μ-loop
 add-hop c = omega arith
 
--- src/lib.rt:81:5
 loop-less : tie.Need-loop-less Inv-loop μ-loop
 loop-less c = omega arith
 
--- src/lib.rt:81:5
 loop-again : tie.Need-loop-again Inv-loop μ-loop
 loop-again c = let b = c .before in let l = b .before .before .loop in let g = ap (λ (x : Stream). x .hops) (b .before .before .before .stream-at .ensures) in let a = b .before .before .before .before .before .args in let s = a .image .now in let t = once s (a .stream) (a .job) in (omega arith, rw add-one (all-turn t (l .hop) (l .inv .1) (eq-eqb _ 1 (let z : b .hop-count .result ≡ 1 = omega arith in sym (b .hop-count .ensures) ∙ z))))
 
--- src/lib.rt:75:1
 returns-2 : tie.Need-returns-2 Inv-loop μ-loop
 unfolding oneFrame
 returns-2 c = let l = c .before .loop in let a = c .before .before .before .before .args in let s = a .image .now in let g = ap (λ (x : Stream). x .hops) (c .before .before .stream-at .ensures) in let e : l .hop ≡ stream s (a .stream) .hops = omega arith in sym (subst (λ (n : ℕ). all n (once s (a .stream) (a .job)) ≡ true) e (l .inv .1))

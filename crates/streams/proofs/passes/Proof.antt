@@ -1,63 +1,46 @@
 use Prim.Native.Nat.{ℕ, _-_, _<_}
-use mathlib.Core.Path.{_≡_, refl, sym, ap, subst, _∙_}
+use mathlib.Core.Path.{sym, ap, subst, _∙_}
 use native.Mathlib.Omega.{arith}
 use Rattle.plan.specs.Questions.{questionAt, each, streamQuestions}
 use Rattle.streams.proofs.Asked.{of-jobs, framed-at, above}
 use Rattle.streams.proofs.passes.Statement.{statement}
 use Rattle.streams.proofs.passes.Tie as tie
-use Rattle.streams.proofs.passes.Reads as reads
-use Rattle.streams.proofs.passes.Lts as lts
-use Rattle.streams.proofs.each_job.Reads as each-job-reads
-use Rattle.streams.proofs.frame_clear.Reads as frame-clear-reads
-use Rattle.streams.proofs.frame_fits.Reads as frame-fits-reads
-use Rattle.streams.proofs.hop_waits.Reads as hop-waits-reads
-use Rattle.streams.proofs.stream_ends.Reads as stream-ends-reads
 
--- src/lib.rt:237:15
 stream-ends-requires : tie.Need-stream-ends-requires
 unfolding questionAt each streamQuestions
 stream-ends-requires c κs = let a = c .before .before .before .args in let p = c .before .before .before .pre in let s = a .image .now in (p .0 .sound, subst (λ (n : ℕ). a .row < questionAt (streamQuestions s) (n - 14) .many) (c .match .keys1) (p .1))
 
--- src/lib.rt:238:15
 frame-fits-requires : tie.Need-frame-fits-requires
 unfolding questionAt each streamQuestions
 frame-fits-requires c κs = let a = c .before .before .before .args in let p = c .before .before .before .pre in let s = a .image .now in (p .0 .sound, subst (λ (n : ℕ). a .row < questionAt (streamQuestions s) (n - 14) .many) (c .match .keys2) (p .1))
 
--- src/lib.rt:239:15
 hop-waits-requires : tie.Need-hop-waits-requires
 unfolding questionAt each streamQuestions
 hop-waits-requires c κs = let a = c .before .before .before .args in let p = c .before .before .before .pre in let s = a .image .now in let e = c .match .keys3 in (framed-at s (a .times .now) (a .number) (p .0) (omega arith), subst (λ (n : ℕ). a .row < questionAt (streamQuestions s) (n - 14) .many) e (p .1))
 
--- src/lib.rt:240:15
 frame-clear-requires : tie.Need-frame-clear-requires
 unfolding questionAt each streamQuestions
 frame-clear-requires c κs = let a = c .before .before .before .args in let p = c .before .before .before .pre in let s = a .image .now in (p .0 .sound, subst (λ (n : ℕ). a .row < questionAt (streamQuestions s) (n - 14) .many) (c .match .keys4) (p .1))
 
--- src/lib.rt:241:14
 each-job-requires : tie.Need-each-job-requires
 each-job-requires c κs = let a = c .before .before .before .args in let p = c .before .before .before .pre in let s = a .image .now in let r = c .match .rest in let g = above (a .number) 15 (above (a .number) 14 (p .0 .from) (r .0 .0 .0 .1)) (r .0 .0 .1) in let j = of-jobs s (a .number) g (p .0 .to) (r .0 .1) (r .1) in (p .0, (g, rw (← j .many) (p .1)))
 
--- src/lib.rt:231:1
 returns : tie.Need-returns
 unfolding questionAt each streamQuestions
 returns c = let a = c .before .before .before .before .args in let s = a .image .now in c .stream-ends .ensures ∙ sym (ap (λ (n : ℕ). questionAt (streamQuestions s) (n - 14) .ok (a .row)) (c .before .match .keys1))
 
--- src/lib.rt:231:1
 returns-2 : tie.Need-returns-2
 unfolding questionAt each streamQuestions
 returns-2 c = let a = c .before .before .before .before .args in let s = a .image .now in c .frame-fits .ensures ∙ sym (ap (λ (n : ℕ). questionAt (streamQuestions s) (n - 14) .ok (a .row)) (c .before .match .keys2))
 
--- src/lib.rt:231:1
 returns-3 : tie.Need-returns-3
 unfolding questionAt each streamQuestions
 returns-3 c = let a = c .before .before .before .before .args in let s = a .image .now in c .hop-waits .ensures ∙ sym (ap (λ (n : ℕ). questionAt (streamQuestions s) (n - 14) .ok (a .row)) (c .before .match .keys3))
 
--- src/lib.rt:231:1
 returns-4 : tie.Need-returns-4
 unfolding questionAt each streamQuestions
 returns-4 c = let a = c .before .before .before .before .args in let s = a .image .now in c .frame-clear .ensures ∙ sym (ap (λ (n : ℕ). questionAt (streamQuestions s) (n - 14) .ok (a .row)) (c .before .match .keys4))
 
--- src/lib.rt:231:1
 returns-5 : tie.Need-returns-5
 returns-5 c = let a = c .before .before .before .before .args in let p = c .before .before .before .before .pre in let s = a .image .now in let r = c .before .match .rest in let g = above (a .number) 15 (above (a .number) 14 (p .0 .from) (r .0 .0 .0 .1)) (r .0 .0 .1) in let j = of-jobs s (a .number) g (p .0 .to) (r .0 .1) (r .1) in c .each-job .ensures ∙ j .ok (a .row)
 

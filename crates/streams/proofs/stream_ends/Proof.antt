@@ -3,33 +3,22 @@ use Rattle.plan.specs.declared.Table.the-variants.{Streams}
 use borrow.Author.Needs.{needs}
 use Rattle.streams.proofs.stream_ends.Statement.{statement}
 use Rattle.streams.proofs.stream_ends.Tie as tie
-use Rattle.streams.proofs.stream_ends.Reads as reads
-use Rattle.streams.proofs.stream_ends.Lts as lts
-use Rattle.tables.proofs.stream_at.Reads as stream-at-reads
-use Rattle.tables.proofs.task_at.Reads as task-at-reads
-use Rattle.terms.proofs.node_of.Reads as node-of-reads
 
--- src/lib.rt:27:9
 stream-at-requires : tie.Need-stream-at-requires
 stream-at-requires c κs = search needs
 
--- src/lib.rt:28:17
 task-at-requires : tie.Need-task-at-requires
 task-at-requires c κs = let p = c .before .before .pre in (p .0 .inside, rw (c .stream-at .ensures) (p .0 .names Streams (c .before .before .args .stream) (p .1) .0))
 
--- src/lib.rt:28:52
 task-at-requires-2 : tie.Need-task-at-requires-2
 task-at-requires-2 c κs = let p = c .before .before .before .pre in (p .0 .inside, rw (c .before .stream-at .ensures) (p .0 .names Streams (c .before .before .before .args .stream) (p .1) .1))
 
--- src/lib.rt:29:20
 node-of-requires : tie.Need-node-of-requires
 node-of-requires c κs = let p = c .before .before .before .before .before .before .pre in (p .0, rw (c .before .before .before .before .stream-at .ensures) (p .0 .names Streams (c .before .before .before .before .before .before .args .stream) (p .1) .0))
 
--- src/lib.rt:29:48
 node-of-requires-2 : tie.Need-node-of-requires-2
 node-of-requires-2 c κs = let p = c .before .before .before .before .before .before .before .pre in (p .0, rw (c .before .before .before .before .before .stream-at .ensures) (p .0 .names Streams (c .before .before .before .before .before .before .before .args .stream) (p .1) .1))
 
--- src/lib.rt:23:1
 returns : tie.Need-returns
 unfolding streamEnds
 returns c = cc

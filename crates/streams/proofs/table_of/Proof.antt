@@ -1,27 +1,21 @@
-use mathlib.Core.Path.{_≡_, refl, sym, ap, subst, _∙_}
+use mathlib.Core.Path.{refl}
 use borrow.Author.Tests.{ne-eqb}
 use Rattle.streams.specs.Framing.{tableAsked}
 use Rattle.streams.proofs.table_of.Statement.{statement}
 use Rattle.streams.proofs.table_of.Tie as tie
-use Rattle.streams.proofs.table_of.Reads as reads
-use Rattle.streams.proofs.table_of.Lts as lts
 
--- src/lib.rt:246:1
 returns : tie.Need-returns
 unfolding tableAsked
 returns c = rw (c .match .keys1) refl
 
--- src/lib.rt:246:1
 returns-2 : tie.Need-returns-2
 unfolding tableAsked
 returns-2 c = rw (c .match .keys2) refl
 
--- src/lib.rt:246:1
 returns-3 : tie.Need-returns-3
 unfolding tableAsked
 returns-3 c = rw (c .match .keys3) refl
 
--- src/lib.rt:246:1
 returns-4 : tie.Need-returns-4
 unfolding tableAsked
 returns-4 c = let n = c .before .args .number in let r = c .match .rest in rw (ne-eqb n 15 (r .0 .0 .1), ne-eqb n 18 (r .0 .1), ne-eqb n 19 (r .1)) refl
