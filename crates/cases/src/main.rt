@@ -224,7 +224,9 @@ fn changed(word: u32, i: u32, place: u32, value: u32, second: u32, other: u32) -
 }
 
 // Writes word i of an image, lowest byte first.
-fn put(image: &mut [u8], i: usize, word: u32) {
+fn put(image: &mut [u8], i: usize, word: u32)
+    requires { ⌜ i < 1000 ⌝ }
+{
     let at = i * 4;
     if at + 4 <= image.len() {
         image[at] = (word % 256) as u8;

@@ -1,60 +1,62 @@
+use native.Mathlib.Omega.{arith}
+use lib.ListN.{length-set}
 use borrow.Author.Needs.{needs}
 use Rattle.cases.proofs.put.Statement.{statement}
 use Rattle.cases.proofs.put.Tie as tie
 use Rattle.cases.proofs.put.Reads as reads
 use Rattle.cases.proofs.put.Lts as lts
 
--- src/main.rt:228:14
+-- src/main.rt:230:14
 mul-at : tie.Need-mul-at
-mul-at c = ?
+mul-at c = search needs
 
--- src/main.rt:229:8
+-- src/main.rt:231:8
 add-if1 : tie.Need-add-if1
-add-if1 c = ?
+add-if1 c = search needs
 
--- src/main.rt:230:21
+-- src/main.rt:232:21
 cast-image : tie.Need-cast-image
 cast-image c = search needs
 
--- src/main.rt:230:9
+-- src/main.rt:232:9
 slice-write-image : tie.Need-slice-write-image
 slice-write-image c = search needs
 
--- src/main.rt:231:25
+-- src/main.rt:233:25
 cast-image-2 : tie.Need-cast-image-2
 cast-image-2 c = search needs
 
--- src/main.rt:231:15
+-- src/main.rt:233:15
 add-image : tie.Need-add-image
 add-image c = search needs
 
--- src/main.rt:231:9
+-- src/main.rt:233:9
 slice-write-image-2 : tie.Need-slice-write-image-2
-slice-write-image-2 c = ?
+slice-write-image-2 c = simp length-set (omega arith)
 
--- src/main.rt:232:25
+-- src/main.rt:234:25
 cast-image-3 : tie.Need-cast-image-3
 cast-image-3 c = search needs
 
--- src/main.rt:232:15
+-- src/main.rt:234:15
 add-image-2 : tie.Need-add-image-2
 add-image-2 c = search needs
 
--- src/main.rt:232:9
+-- src/main.rt:234:9
 slice-write-image-3 : tie.Need-slice-write-image-3
-slice-write-image-3 c = ?
+slice-write-image-3 c = simp length-set (omega arith)
 
--- src/main.rt:233:25
+-- src/main.rt:235:25
 cast-image-4 : tie.Need-cast-image-4
 cast-image-4 c = search needs
 
--- src/main.rt:233:15
+-- src/main.rt:235:15
 add-image-3 : tie.Need-add-image-3
 add-image-3 c = search needs
 
--- src/main.rt:233:9
+-- src/main.rt:235:9
 slice-write-image-4 : tie.Need-slice-write-image-4
-slice-write-image-4 c = ?
+slice-write-image-4 c = simp length-set (omega arith)
 
 -- src/main.rt:227:1
 same-length : tie.Need-same-length
