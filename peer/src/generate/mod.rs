@@ -1,0 +1,15 @@
+//! Accepted plans by construction, of many shapes.
+//!
+//! Tasks come in transactions: tasks of one period, joined by messages where
+//! their nodes differ and by buffers where they do not. Each job is placed
+//! where its core is free once what it waits for has arrived; windows are
+//! laid around the pieces afterwards, and rows are shuffled last.
+
+mod draft;
+mod shapes;
+mod timeline;
+mod windows;
+
+pub use shapes::{
+    accepted, bare, busy_core, full, large, medium, rich, small, small_rich, unit_periods,
+};

@@ -1,0 +1,402 @@
+//! The shapes of plans.
+
+use super::draft::{shuffled, Draft, Flow, Haste, NewTask, Transaction};
+use crate::image::Plan;
+use crate::rng::Rng;
+
+/// How large a random plan may become.
+struct Size {
+    cycles: &'static [u32],
+    cores: u32,
+    nodes: u32,
+    vcpus: u32,
+    links: u32,
+    transactions: usize,
+    jobs: u32,
+}
+
+const SMALL: Size = Size {
+    cycles: &[
+        1, 2, 4, 6, 8, 10, 12, 16, 18, 20, 24, 30, 36, 40, 48, 60, 72, 97, 120,
+    ],
+    cores: 4,
+    nodes: 3,
+    vcpus: 5,
+    links: 5,
+    transactions: 4,
+    jobs: 6,
+};
+
+const MEDIUM: Size = Size {
+    cycles: &[96, 144, 200, 240, 360, 400, 720, 840, 1_000, 1_260, 2_520],
+    cores: 8,
+    nodes: 5,
+    vcpus: 12,
+    links: 12,
+    transactions: 8,
+    jobs: 12,
+};
+
+const LARGE: Size = Size {
+    cycles: &[
+        5_040, 10_000, 65_536, 99_991, 100_000, 720_720, 999_999, 1_000_000,
+    ],
+    cores: 32,
+    nodes: 16,
+    vcpus: 64,
+    links: 64,
+    transactions: 40,
+    jobs: 40,
+};
+
+/// An accepted plan of any shape but the full ones.
+pub fn accepted(rng: &mut Rng) -> Plan {
+    match rng.below(100) {
+        0..=3 => bare(rng),
+        4..=7 => unit_periods(rng),
+        8..=39 => small(rng),
+        40..=69 => medium(rng),
+        70..=95 => rich(rng),
+        _ => large(rng),
+    }
+}
+
+/// A plan for small cycles.
+pub fn small(rng: &mut Rng) -> Plan {
+    random(&SMALL, rng)
+}
+
+/// A plan for cycles of some hundred ticks.
+pub fn medium(rng: &mut Rng) -> Plan {
+    random(&MEDIUM, rng)
+}
+
+/// A plan for long cycles, with up to 32 cores.
+pub fn large(rng: &mut Rng) -> Plan {
+    random(&LARGE, rng)
+}
+
+/// A plan with rows in every table.
+pub fn rich(rng: &mut Rng) -> Plan {
+    let size = if rng.chance(40) { &SMALL } else { &MEDIUM };
+    with_all_tables(size, rng)
+}
+
+/// A plan with rows in every table, for small cycles.
+pub fn small_rich(rng: &mut Rng) -> Plan {
+    with_all_tables(&SMALL, rng)
+}
+
+fn with_all_tables(size: &Size, rng: &mut Rng) -> Plan {
+    loop {
+        let mut draft = foundation(size, 2, rng);
+        let turns = rng.below(size.transactions) + 2;
+        for _ in 0..turns {
+            let transaction = transaction(&draft, size, rng);
+            draft.add(&transaction, rng);
+        }
+        if !draft.plan.streams.is_empty() && !draft.plan.buffers.is_empty() {
+            if let Some(plan) = draft.finish(None, rng) {
+                return plan;
+            }
+        }
+    }
+}
+
+/// Cores, perhaps links, and all other tables empty.
+pub fn bare(rng: &mut Rng) -> Plan {
+    let cycle = rng.pick(&[1, 2, 10, 1_000, 1_000_000]);
+    let mut draft = Draft::new(cycle, rng.within(0..=10_000));
+    for _ in 0..rng.within(1..=3) {
+        let [node, d, v] = [15, 1_000, 1_000].map(|most| rng.within(0..=most));
+        draft.add_core(node, d, v);
+    }
+    for _ in 0..rng.within(0..=2) {
+        draft.add_link(
+            rng.within(0..=7),
+            rng.within(8..=15),
+            rng.within(0..=1_000_000),
+        );
+    }
+    let plan = draft.finish(None, rng);
+    plan.expect("no windows are needed")
+}
+
+/// Tasks whose jobs fill their periods, down to one tick each.
+pub fn unit_periods(rng: &mut Rng) -> Plan {
+    let period = rng.within(1..=3);
+    let tasks = rng.within(1..=3);
+    let most_jobs = rng.pick(&[8, 100, 2_048 / tasks]);
+    let jobs = rng.within(1..=most_jobs);
+    let mut plan = Plan {
+        cycle: period * jobs,
+        precision: rng.within(0..=10_000),
+        ..Plan::default()
+    };
+    for task in 0..tasks {
+        plan.cores.push([task, 0, 0]);
+        plan.vcpus.push([task]);
+        plan.tasks.push([task, 0, period, period, period]);
+        let starts = (0..jobs).map(|k| k * period);
+        plan.pieces
+            .extend((0..).zip(starts).map(|(k, start)| [task, k, start, period]));
+        let jobs_per_window = rng.within(jobs.div_ceil(300)..=jobs);
+        for first in (0..jobs).step_by(jobs_per_window as usize) {
+            let count = jobs_per_window.min(jobs - first);
+            plan.windows.push([task, first * period, count * period]);
+        }
+    }
+    shuffled(plan, rng)
+}
+
+/// One core with all 1,024 windows and all 2,048 pieces of the plan.
+pub fn busy_core(rng: &mut Rng) -> Plan {
+    let [d, v] = [rng.within(0..=3), rng.within(0..=3)];
+    let vcpus = rng.within(1..=4);
+    let mut plan = Plan {
+        cores: vec![[0, d, v]],
+        vcpus: vec![[0]; vcpus as usize],
+        ..Plan::default()
+    };
+    plan.tasks = (0..256).map(|task| [task % vcpus, 0, 0, 0, 0]).collect();
+    let gap = |rng: &mut Rng| rng.pick(&[0, 1, 1, 2]);
+    let mut now = 0;
+    for window in 0..1_024 {
+        let vcpu = window % vcpus;
+        let start = now + gap(rng);
+        now = start + v + gap(rng);
+        for _ in 0..2 {
+            let task = next_task(&plan, vcpu, rng);
+            let work = rng.within(1..=3);
+            plan.pieces.push([task, 0, now, d + work]);
+            plan.tasks[task as usize][3] += work;
+            now += d + work + gap(rng);
+        }
+        plan.windows.push([vcpu, start, now - start]);
+    }
+    plan.cycle = now + gap(rng);
+    for task in &mut plan.tasks {
+        (task[2], task[4]) = (plan.cycle, plan.cycle);
+    }
+    shuffled(plan, rng)
+}
+
+/// A task of the VCPU that has no piece yet, or else any.
+fn next_task(plan: &Plan, vcpu: u32, rng: &mut Rng) -> u32 {
+    let of_vcpu = |task: &u32| plan.tasks[*task as usize][0] == vcpu;
+    let tasks: Vec<u32> = (0..256).filter(of_vcpu).collect();
+    let waits = |task: &&u32| plan.tasks[**task as usize][3] == 0;
+    match tasks.iter().find(waits) {
+        Some(&task) => task,
+        None => rng.pick(&tasks),
+    }
+}
+
+/// A plan with every table at its highest row count.
+///
+/// Its 64 transactions have four tasks, one stream and one buffer each. Where
+/// they have j jobs, a job has 8/j pieces and a message 8/j hops.
+pub fn full(rng: &mut Rng) -> Plan {
+    loop {
+        if let Some(plan) = try_full(rng) {
+            return plan;
+        }
+    }
+}
+
+fn try_full(rng: &mut Rng) -> Option<Plan> {
+    let unit = rng.pick(&[10_000, 30_000, 90_000, 125_000]);
+    let mut draft = Draft::new(8 * unit, rng.within(0..=unit / 200));
+    draft.spread = 15;
+    let nodes = rng.within(3..=6);
+    for core in 0..32 {
+        let d = rng.within(0..=unit / 1_000);
+        draft.add_core(core % nodes, d, rng.within(0..=unit / 500));
+    }
+    for vcpu in 0..64 {
+        let core = if vcpu < 32 { vcpu } else { rng.within(0..=31) };
+        draft.add_vcpu(core);
+    }
+    for link in 0..64 {
+        let from = link % nodes;
+        let to = (from + 1 + link / nodes % (nodes - 1)) % nodes;
+        draft.add_link(from, to, rng.within(0..=unit / 200));
+    }
+    for _ in 0..64 {
+        let fits = (0..20).any(|_| {
+            let transaction = full_transaction(&draft, unit, rng);
+            draft.add(&transaction, rng)
+        });
+        if !fits {
+            return None;
+        }
+    }
+    draft.finish(Some(1_024), rng)
+}
+
+fn full_transaction(draft: &Draft, unit: u32, rng: &mut Rng) -> Transaction {
+    let jobs = rng.pick(&[1, 2, 4, 8]);
+    let each = 8 / jobs;
+    let task = |vcpu: u32, rng: &mut Rng| NewTask {
+        vcpu,
+        budget: each + rng.within(0..=unit / 200),
+        least_pieces: each,
+        most_pieces: each,
+        haste: Haste::Easy,
+    };
+    let vcpus: Vec<u32> = (0..64).collect();
+    let writer = rng.pick(&vcpus);
+    let node = draft.node_of_vcpu(writer);
+    let is_near = |vcpu: &u32| draft.node_of_vcpu(*vcpu) == node;
+    let (near, far): (Vec<u32>, Vec<u32>) = vcpus.iter().partition(|vcpu| is_near(vcpu));
+    let wire = rng.within(1..=unit / 400);
+    Transaction {
+        period: 8 * unit / jobs,
+        tasks: vec![
+            task(writer, rng),
+            task(rng.pick(&near), rng),
+            task(rng.pick(&far), rng),
+            task(rng.pick(&vcpus), rng),
+        ],
+        flows: vec![
+            Flow {
+                from: 0,
+                to: 1,
+                hops: each,
+                wire,
+            },
+            Flow {
+                from: rng.pick(&[0, 1]),
+                to: 2,
+                hops: each,
+                wire,
+            },
+        ],
+    }
+}
+
+fn random(size: &Size, rng: &mut Rng) -> Plan {
+    loop {
+        let mut draft = foundation(size, 0, rng);
+        if !draft.plan.vcpus.is_empty() {
+            for _ in 0..rng.below(size.transactions + 1) {
+                let transaction = transaction(&draft, size, rng);
+                draft.add(&transaction, rng);
+            }
+        }
+        if let Some(plan) = draft.finish(None, rng) {
+            return plan;
+        }
+    }
+}
+
+/// Cores on at least so many nodes, and VCPUs and links.
+fn foundation(size: &Size, least: u32, rng: &mut Rng) -> Draft {
+    let cycle = rng.pick(size.cycles);
+    let most_precision = (cycle / 50).clamp(2, 10_000);
+    let precision = rng.within(0..=most_precision);
+    let precision = if rng.chance(30) { 0 } else { precision };
+    let mut draft = Draft::new(cycle, precision);
+    draft.spread = rng.pick(&[10, 50, 90]);
+    let mut nodes: Vec<u32> = (0..16).collect();
+    rng.shuffle(&mut nodes);
+    nodes.truncate(rng.within(least.max(1)..=size.nodes) as usize);
+    add_cores(&mut draft, size, least, &nodes, rng);
+    if nodes.len() > 1 {
+        add_links(&mut draft, size, least, &mut nodes, rng);
+    }
+    draft
+}
+
+/// The first cores have the first nodes, and the first VCPUs these cores.
+fn add_cores(draft: &mut Draft, size: &Size, least: u32, nodes: &[u32], rng: &mut Rng) {
+    let longest_switch = (draft.plan.cycle / 60).clamp(1, 1_000);
+    for core in 0..rng.within(least.max(1)..=size.cores) {
+        let any = rng.pick(nodes);
+        let node = if core < least {
+            nodes[core as usize]
+        } else {
+            any
+        };
+        draft.add_core(node, few(longest_switch, rng), few(longest_switch, rng));
+    }
+    let cores = draft.plan.cores.len() as u32;
+    for vcpu in 0..rng.within(least..=size.vcpus) {
+        let any = rng.within(0..=cores - 1);
+        draft.add_vcpu(if vcpu < least { vcpu } else { any });
+    }
+}
+
+/// The first link joins the first two nodes.
+fn add_links(draft: &mut Draft, size: &Size, least: u32, nodes: &mut [u32], rng: &mut Rng) {
+    for link in 0..rng.within(least..=size.links) {
+        if link > 0 {
+            rng.shuffle(nodes);
+        }
+        let most_delay = (draft.plan.cycle / 40).max(2);
+        draft.add_link(nodes[0], nodes[1], few(most_delay, rng));
+    }
+}
+
+/// Up to a number, and often none or one.
+fn few(most: u32, rng: &mut Rng) -> u32 {
+    match rng.below(4) {
+        0 => 0,
+        1 => 1.min(most),
+        _ => rng.within(0..=most),
+    }
+}
+
+fn transaction(draft: &Draft, size: &Size, rng: &mut Rng) -> Transaction {
+    let cycle = draft.plan.cycle;
+    let fewer_jobs = rng.within(1..=size.jobs);
+    let most_jobs = rng.pick(&[size.jobs, size.jobs, fewer_jobs]);
+    let divides = |jobs: &u32| cycle.is_multiple_of(*jobs);
+    let jobs: Vec<u32> = (1..=most_jobs).filter(divides).collect();
+    let period = cycle / rng.pick(&jobs);
+    let count = rng.within(1..=4);
+    let vcpus = draft.plan.vcpus.len() as u32;
+    let task = |_| NewTask {
+        vcpu: rng.within(0..=vcpus - 1),
+        budget: rng.within(1..=(period / (5 * count)).max(1)),
+        least_pieces: 1,
+        most_pieces: rng.pick(&[1, 2, 4]),
+        haste: rng.pick(&[Haste::Easy, Haste::Easy, Haste::Early, Haste::Late]),
+    };
+    let mut tasks: Vec<NewTask> = (0..count).map(task).collect();
+    if rng.chance(25) {
+        // A first start and a last end as far apart as they may be.
+        tasks[0].haste = Haste::Early;
+        tasks[count as usize - 1].haste = Haste::Late;
+    }
+    let flows = flows(draft, period, &tasks, rng);
+    Transaction {
+        period,
+        tasks,
+        flows,
+    }
+}
+
+/// Some flows between tasks, each over as many hops as the links allow.
+fn flows(draft: &Draft, period: u32, tasks: &[NewTask], rng: &mut Rng) -> Vec<Flow> {
+    let mut flows = Vec::new();
+    for to in 1..tasks.len() {
+        while rng.chance(65) {
+            let from = rng.below(to);
+            let ends = [tasks[from].vcpu, tasks[to].vcpu];
+            let [start, end] = ends.map(|vcpu| draft.node_of_vcpu(vcpu));
+            let near = start == end;
+            let leads = |hops: &u32| near || draft.walk(start, end, *hops, rng).is_some();
+            let lengths: Vec<u32> = [1, 1, 2, 2, 3, 4, 8].into_iter().filter(leads).collect();
+            if let Some(hops) = rng.pick_any(&lengths) {
+                flows.push(Flow {
+                    from,
+                    to,
+                    hops,
+                    wire: rng.within(1..=(period / (8 * hops)).max(1)),
+                });
+            }
+        }
+    }
+    flows
+}

@@ -1,0 +1,56 @@
+//! Two implementations of the C boundary, called side by side.
+//!
+//! Every call goes to both with bytes of their own, and answers and all bytes
+//! are compared, also those before and behind what was lent.
+
+mod cases;
+mod lent;
+mod pair;
+
+use crate::boundary::Boundary;
+use crate::rng::Rng;
+
+pub use pair::{Calls, Difference};
+
+/// What to run.
+#[derive(Clone, Copy, Debug)]
+pub struct Settings {
+    pub seed: u64,
+    /// The cases to run; each is made of the seed and its number alone.
+    pub first_case: u64,
+    pub cases: u64,
+    /// Whether plans with full tables and long cycles are among them.
+    pub large: bool,
+    /// Whether each case's number goes to standard error before it runs, to
+    /// find the one in which a library ends the process.
+    pub trace: bool,
+}
+
+/// What was run without a difference.
+#[derive(Clone, Debug, Default)]
+pub struct Summary {
+    /// How many images each question refused first, and how many none did.
+    pub refusals: [u64; 25],
+    pub calls: Calls,
+}
+
+/// Runs all cases, up to the first difference.
+pub fn run(
+    settings: &Settings,
+    ours: &dyn Boundary,
+    theirs: &dyn Boundary,
+) -> Result<Summary, Difference> {
+    let mut summary = Summary::default();
+    let mut pair = pair::Pair::new(ours, theirs);
+    for case in settings.first_case..settings.first_case + settings.cases {
+        if settings.trace {
+            eprintln!("case {case}");
+        }
+        let mut rng = Rng::for_case(settings.seed, case);
+        let number = cases::run(case, settings.large, &mut pair, &mut rng)
+            .map_err(|difference| difference.in_case(case))?;
+        summary.refusals[number as usize] += 1;
+    }
+    summary.calls = pair.calls;
+    Ok(summary)
+}

@@ -1,0 +1,216 @@
+//! The plan image: nine tables of 32-bit little-endian words, then a trailer.
+
+/// Bytes of a word.
+pub const WORD: usize = 4;
+/// Bytes of the trailer with the last word.
+pub const TRAILER: usize = 84;
+/// The longest image: every table at its highest row count.
+pub const LONGEST: usize = 63_956;
+
+/// The tables' numbers.
+pub const CORE: u32 = 1;
+pub const VCPU: u32 = 2;
+pub const TASK: u32 = 3;
+pub const WINDOW: u32 = 4;
+pub const PIECE: u32 = 5;
+pub const LINK: u32 = 6;
+pub const STREAM: u32 = 7;
+pub const FRAME: u32 = 8;
+pub const BUFFER: u32 = 9;
+
+/// Words of a row, table by table.
+pub const WIDTHS: [usize; 9] = [3, 1, 5, 3, 4, 3, 5, 5, 3];
+/// The least and the highest row count, table by table.
+pub const ROW_BOUNDS: [(u32, u32); 9] = [
+    (1, 32),
+    (0, 64),
+    (0, 256),
+    (0, 1024),
+    (0, 2048),
+    (0, 64),
+    (0, 64),
+    (0, 512),
+    (0, 64),
+];
+
+/// A plan as plain rows, each an array of its words in the paper's order.
+#[derive(Clone, Debug, Default, PartialEq, Eq)]
+pub struct Plan {
+    /// H
+    pub cycle: u32,
+    /// P
+    pub precision: u32,
+    /// node, d, v
+    pub cores: Vec<[u32; 3]>,
+    /// core
+    pub vcpus: Vec<[u32; 1]>,
+    /// VCPU, core mask, period T, budget C, deadline D
+    pub tasks: Vec<[u32; 5]>,
+    /// VCPU, start, length
+    pub windows: Vec<[u32; 3]>,
+    /// task, job k, start, length
+    pub pieces: Vec<[u32; 4]>,
+    /// from node, to node, delay
+    pub links: Vec<[u32; 3]>,
+    /// sender task, receiver task, latency E, hops, wire ticks L
+    pub streams: Vec<[u32; 5]>,
+    /// stream, job k, hop, link, start
+    pub frames: Vec<[u32; 5]>,
+    /// buffer number, writer task, reader task
+    pub buffers: Vec<[u32; 3]>,
+}
+
+/// What the trailer says: H, P, and each table's byte offset and row count.
+#[derive(Clone, Copy, Debug, PartialEq, Eq)]
+pub struct Trailer {
+    pub cycle: u32,
+    pub precision: u32,
+    pub tables: [(u32, u32); 9],
+}
+
+/// The word at a byte of the image.
+pub fn word_at(image: &[u8], byte: usize) -> u32 {
+    let bytes = image[byte..byte + WORD].try_into();
+    u32::from_le_bytes(bytes.expect("a word is four bytes"))
+}
+
+/// Overwrites the word at a byte of the image.
+pub fn set_word(image: &mut [u8], byte: usize, word: u32) {
+    image[byte..byte + WORD].copy_from_slice(&word.to_le_bytes());
+}
+
+impl Trailer {
+    /// Reads the trailer of an image of at least 84 bytes.
+    pub fn read(image: &[u8]) -> Trailer {
+        let begin = image.len() - TRAILER;
+        let field = |index: usize| word_at(image, begin + index * WORD);
+        Trailer {
+            cycle: field(0),
+            precision: field(1),
+            tables: std::array::from_fn(|table| (field(2 + 2 * table), field(3 + 2 * table))),
+        }
+    }
+}
+
+impl Plan {
+    /// The image of the plan, whatever its row counts and words are.
+    pub fn encode(&self) -> Vec<u8> {
+        let mut image = Vec::new();
+        let tables = [
+            append(&mut image, &self.cores),
+            append(&mut image, &self.vcpus),
+            append(&mut image, &self.tasks),
+            append(&mut image, &self.windows),
+            append(&mut image, &self.pieces),
+            append(&mut image, &self.links),
+            append(&mut image, &self.streams),
+            append(&mut image, &self.frames),
+            append(&mut image, &self.buffers),
+        ];
+        let begin = image.len() as u32;
+        put(&mut image, &[self.cycle, self.precision]);
+        for (offset, rows) in tables {
+            put(&mut image, &[offset, rows]);
+        }
+        put(&mut image, &[begin]);
+        image
+    }
+
+    /// Reads the rows of an image whose tables lie as its trailer says.
+    pub fn decode(image: &[u8]) -> Plan {
+        let trailer = Trailer::read(image);
+        let tables = trailer.tables;
+        Plan {
+            cycle: trailer.cycle,
+            precision: trailer.precision,
+            cores: rows(image, tables[0]),
+            vcpus: rows(image, tables[1]),
+            tasks: rows(image, tables[2]),
+            windows: rows(image, tables[3]),
+            pieces: rows(image, tables[4]),
+            links: rows(image, tables[5]),
+            streams: rows(image, tables[6]),
+            frames: rows(image, tables[7]),
+            buffers: rows(image, tables[8]),
+        }
+    }
+
+    /// The row counts, table by table.
+    pub fn counts(&self) -> [usize; 9] {
+        [
+            self.cores.len(),
+            self.vcpus.len(),
+            self.tasks.len(),
+            self.windows.len(),
+            self.pieces.len(),
+            self.links.len(),
+            self.streams.len(),
+            self.frames.len(),
+            self.buffers.len(),
+        ]
+    }
+
+    /// The number of lanes: cores and links.
+    pub fn lanes(&self) -> usize {
+        self.cores.len() + self.links.len()
+    }
+}
+
+/// What rows that name existing rows lead to.
+impl Plan {
+    pub fn core_of_vcpu(&self, vcpu: u32) -> u32 {
+        self.vcpus[vcpu as usize][0]
+    }
+
+    pub fn core_of_task(&self, task: u32) -> u32 {
+        self.core_of_vcpu(self.tasks[task as usize][0])
+    }
+
+    pub fn node_of_task(&self, task: u32) -> u32 {
+        self.cores[self.core_of_task(task) as usize][0]
+    }
+
+    /// d of the task's core.
+    pub fn task_switch(&self, task: u32) -> u32 {
+        self.cores[self.core_of_task(task) as usize][1]
+    }
+
+    /// v of the VCPU's core.
+    pub fn vcpu_switch(&self, vcpu: u32) -> u32 {
+        self.cores[self.core_of_vcpu(vcpu) as usize][2]
+    }
+
+    pub fn period(&self, task: u32) -> u32 {
+        self.tasks[task as usize][2]
+    }
+
+    /// The number of jobs of a task in the cycle, H/T.
+    pub fn jobs(&self, task: u32) -> u32 {
+        self.cycle / self.period(task)
+    }
+}
+
+fn put(image: &mut Vec<u8>, words: &[u32]) {
+    for word in words {
+        image.extend_from_slice(&word.to_le_bytes());
+    }
+}
+
+/// Appends a table and gives its byte offset and row count.
+fn append<const W: usize>(image: &mut Vec<u8>, rows: &[[u32; W]]) -> (u32, u32) {
+    let offset = image.len() as u32;
+    for row in rows {
+        put(image, row);
+    }
+    (offset, rows.len() as u32)
+}
+
+fn rows<const W: usize>(image: &[u8], (offset, count): (u32, u32)) -> Vec<[u32; W]> {
+    let begin = offset as usize;
+    let end = begin + count as usize * W * WORD;
+    image[begin..end].chunks_exact(W * WORD).map(row).collect()
+}
+
+fn row<const W: usize>(bytes: &[u8]) -> [u32; W] {
+    std::array::from_fn(|column| word_at(bytes, column * WORD))
+}

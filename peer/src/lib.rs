@@ -1,0 +1,27 @@
+//! A second implementation of the tunnel plan checker, its dispatch tables
+//! and their stepping, written from the papers alone. It is meant to be run
+//! beside the product's own code; see README.md for the readings it took.
+
+mod answer;
+pub mod boundary;
+mod check;
+mod dispatch;
+pub mod generate;
+pub mod harness;
+pub mod image;
+mod intervals;
+mod jobs;
+pub mod mutate;
+pub mod naive;
+mod report;
+mod rng;
+mod routes;
+mod table;
+
+pub use answer::Answer;
+pub use check::check;
+pub use dispatch::{start, step, step_all, State};
+pub use image::Plan;
+pub use report::report;
+pub use rng::Rng;
+pub use table::{build, lanes, Entry};

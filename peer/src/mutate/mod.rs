@@ -1,0 +1,210 @@
+//! Images that are broken, or almost broken, in chosen places.
+//!
+//! Each change is aimed at one question: it is meant to be the first that is
+//! answered no, or to hold by a single tick. Nothing here asks the checker.
+
+mod buffers;
+mod bytes;
+mod cores;
+mod streams;
+
+use crate::generate;
+use crate::image::{Plan, ROW_BOUNDS};
+use crate::rng::Rng;
+
+/// An image made of an accepted plan by one change, sometimes by two.
+pub fn mutate(plan: &Plan, rng: &mut Rng) -> Vec<u8> {
+    let mut plan = plan.clone();
+    let first = rng.below(27) as u32;
+    if (4..=24).contains(&first) {
+        aim_or_near(first, &mut plan, rng);
+    }
+    if (first == 0 || rng.chance(12)) && is_sound(&plan) {
+        let second = rng.within(4..=24);
+        if first == 0 {
+            harmless(&mut plan, rng);
+        } else {
+            aim_or_near(second, &mut plan, rng);
+        }
+    }
+    match first {
+        1..=3 => bytes::aim(first, plan, rng),
+        25.. => bytes::scatter(plan.encode(), rng),
+        _ => plan.encode(),
+    }
+}
+
+/// An image made of a plan of its own, mostly one with rows in every table.
+pub fn mutant(rng: &mut Rng) -> Vec<u8> {
+    let plan = if rng.chance(75) {
+        generate::rich(rng)
+    } else {
+        generate::accepted(rng)
+    };
+    mutate(&plan, rng)
+}
+
+/// Aims at a question, or at others where the plan has no rows for it.
+fn aim_or_near(question: u32, plan: &mut Plan, rng: &mut Rng) {
+    for turn in 0..40 {
+        let near = if turn < 8 {
+            question
+        } else {
+            rng.within(4..=24)
+        };
+        let mut changed = plan.clone();
+        if aim(near, &mut changed, rng).is_some() {
+            *plan = changed;
+            return;
+        }
+    }
+}
+
+/// Changes a sound plan with a question in mind; none where it has no rows
+/// that would serve. The plan may be changed in part then.
+pub fn aim(question: u32, plan: &mut Plan, rng: &mut Rng) -> Option<()> {
+    match question {
+        4 => cores::limits(plan, rng),
+        5 => cores::row_number(plan, rng),
+        6 => cores::range(plan, rng),
+        7 => cores::window_bounds(plan, rng),
+        8 => cores::window_clash(plan, rng),
+        9 => cores::mask(plan, rng),
+        10 => cores::piece_in_job(plan, rng),
+        11 => cores::piece_in_window(plan, rng),
+        12 => cores::piece_clash(plan, rng),
+        13 => cores::budget(plan, rng),
+        14 => streams::ends(plan, rng),
+        15 => streams::frame_in_job(plan, rng),
+        16 => streams::frame_count(plan, rng),
+        17 => streams::route(plan, rng),
+        18 => streams::hop_order(plan, rng),
+        19 => streams::frame_clash(plan, rng),
+        20 => streams::message_order(plan, rng),
+        21 => streams::latency(plan, rng),
+        22 => buffers::sides(plan, rng),
+        23 => buffers::order(plan, rng),
+        24 => buffers::hold_clash(plan, rng),
+        _ => None,
+    }
+}
+
+/// Changes that most plans bear.
+fn harmless(plan: &mut Plan, rng: &mut Rng) {
+    match rng.below(6) {
+        0 => plan.precision = plan.precision.saturating_sub(1),
+        1 => plan.tasks.iter_mut().for_each(|task| task[4] = task[2]),
+        2 => plan.tasks.iter_mut().for_each(|task| task[1] = u32::MAX),
+        3 => plan.streams.iter_mut().for_each(|row| row[2] = 1_000_000),
+        4 => rng.shuffle(&mut plan.pieces),
+        _ => rng.shuffle(&mut plan.windows),
+    }
+}
+
+/// Whether the rows lead where they say and no word is huge, so that a second
+/// change may follow them and count on.
+fn is_sound(plan: &Plan) -> bool {
+    rows_lead(plan) && words_are_moderate(plan)
+}
+
+fn words_are_moderate(plan: &Plan) -> bool {
+    let moderate = |words: &[u32]| words.iter().all(|word| *word < 1 << 24);
+    moderate(&[plan.cycle, plan.precision])
+        && moderate(plan.cores.as_flattened())
+        && plan.tasks.iter().all(|task| moderate(&task[2..]))
+        && moderate(plan.windows.as_flattened())
+        && moderate(plan.pieces.as_flattened())
+        && moderate(plan.links.as_flattened())
+        && moderate(plan.streams.as_flattened())
+        && moderate(plan.frames.as_flattened())
+        && moderate(plan.buffers.as_flattened())
+}
+
+fn rows_lead(plan: &Plan) -> bool {
+    let [cores, vcpus, tasks, _, _, links, streams, _, _] = plan.counts();
+    let names = |number: u32, rows: usize| (number as usize) < rows;
+    plan.vcpus.iter().all(|row| names(row[0], cores))
+        && plan.tasks.iter().all(|row| names(row[0], vcpus))
+        && plan.tasks.iter().all(|row| row[2] > 0)
+        && plan.windows.iter().all(|row| names(row[0], vcpus))
+        && plan.pieces.iter().all(|row| names(row[0], tasks))
+        && plan.streams.iter().all(|row| names(row[0], tasks))
+        && plan.streams.iter().all(|row| names(row[1], tasks))
+        && plan.frames.iter().all(|row| names(row[0], streams))
+        && plan.frames.iter().all(|row| names(row[3], links))
+        && plan.buffers.iter().all(|row| names(row[1], tasks))
+        && plan.buffers.iter().all(|row| names(row[2], tasks))
+}
+
+/// A word of a computed value; what does not fit wraps.
+fn word(value: i64) -> u32 {
+    value as u32
+}
+
+fn wide(word: u32) -> i64 {
+    i64::from(word)
+}
+
+/// A random row number of a table, if it has rows.
+fn any_row<R>(rows: &[R], rng: &mut Rng) -> Option<usize> {
+    (!rows.is_empty()).then(|| rng.below(rows.len()))
+}
+
+/// A random one of the row numbers that serve.
+fn any_where(rows: usize, serves: impl Fn(usize) -> bool, rng: &mut Rng) -> Option<usize> {
+    let choice: Vec<usize> = (0..rows).filter(|row| serves(*row)).collect();
+    rng.pick_any(&choice)
+}
+
+/// Sets one word of a random row.
+fn set<const W: usize>(
+    rows: &mut [[u32; W]],
+    column: usize,
+    value: u32,
+    rng: &mut Rng,
+) -> Option<()> {
+    let row = any_row(rows, rng)?;
+    rows[row][column] = value;
+    Some(())
+}
+
+/// Puts one more row into a table that has room for it.
+fn insert<const W: usize>(
+    rows: &mut Vec<[u32; W]>,
+    table: u32,
+    row: [u32; W],
+    rng: &mut Rng,
+) -> Option<()> {
+    let most = ROW_BOUNDS[table as usize - 1].1 as usize;
+    if rows.len() >= most {
+        return None;
+    }
+    rows.insert(rng.below(rows.len() + 1), row);
+    Some(())
+}
+
+/// Two different rows that serve together.
+fn any_pair(
+    rows: usize,
+    serve: impl Fn(usize, usize) -> bool,
+    rng: &mut Rng,
+) -> Option<(usize, usize)> {
+    for _ in 0..40 {
+        let (a, b) = (rng.below(rows.max(1)), rng.below(rows.max(1)));
+        if a != b && serve(a, b) {
+            return Some((a, b));
+        }
+    }
+    None
+}
+
+/// First start and last end of a job that has pieces.
+fn job_span(plan: &Plan, task: u32, k: u32) -> Option<(i64, i64)> {
+    let of_job = |piece: &&[u32; 4]| piece[0] == task && piece[1] == k;
+    let pieces = || plan.pieces.iter().filter(of_job);
+    let first = pieces().map(|piece| wide(piece[2])).min()?;
+    let last = pieces()
+        .map(|piece| wide(piece[2]) + wide(piece[3]))
+        .max()?;
+    Some((first, last))
+}

@@ -1,0 +1,314 @@
+//! Changes aimed at questions 14 to 21.
+
+use super::{any_row, any_where, insert, job_span, wide, word};
+use crate::image::{Plan, FRAME, LINK, ROW_BOUNDS};
+use crate::rng::Rng;
+
+/// Any two tasks that serve.
+fn task_pair(plan: &Plan, serve: impl Fn(u32, u32) -> bool, rng: &mut Rng) -> Option<(u32, u32)> {
+    super::any_pair(plan.tasks.len(), |a, b| serve(a as u32, b as u32), rng)
+        .map(|(a, b)| (a as u32, b as u32))
+}
+
+/// Whether two tasks may be a stream's ends.
+fn may_talk(plan: &Plan, a: u32, b: u32) -> bool {
+    plan.period(a) == plan.period(b) && plan.node_of_task(a) != plan.node_of_task(b)
+}
+
+pub fn ends(plan: &mut Plan, rng: &mut Rng) -> Option<()> {
+    if rng.chance(40) {
+        let (sender, receiver) = task_pair(plan, |a, b| !may_talk(plan, a, b), rng)?;
+        return insert_stream(plan, [sender, receiver, 0, 1, 1]);
+    }
+    let row = any_row(&plan.streams, rng)?;
+    let end = rng.below(2);
+    let kept = plan.streams[row][1 - end];
+    let task = any_where(
+        plan.tasks.len(),
+        |task| task as u32 != kept && !may_talk(plan, task as u32, kept),
+        rng,
+    )?;
+    plan.streams[row][end] = task as u32;
+    Some(())
+}
+
+/// Appends a stream, so that the rows that name streams stay right.
+fn insert_stream(plan: &mut Plan, stream: [u32; 5]) -> Option<()> {
+    plan.streams.push(stream);
+    (plan.streams.len() <= 64).then_some(())
+}
+
+pub fn frame_in_job(plan: &mut Plan, rng: &mut Rng) -> Option<()> {
+    let row = any_row(&plan.frames, rng)?;
+    let [stream, k, ..] = plan.frames[row];
+    let [sender, _, _, hops, wire] = plan.streams[stream as usize];
+    let period = wide(plan.period(sender));
+    let jobs = plan.jobs(sender);
+    let frame = &mut plan.frames[row];
+    match rng.below(8) {
+        0 => frame[1] = jobs,
+        7 => {
+            // The same place in the first job after the cycle.
+            frame[1] = jobs;
+            frame[4] = word(wide(frame[4]) + (wide(jobs) - wide(k)) * period);
+        }
+        1 => frame[1] = rng.pick(&[1 << 31, u32::MAX, jobs + 1]),
+        2 => frame[2] = rng.pick(&[hops, hops + 1, 1 << 30, u32::MAX]),
+        3 => frame[4] = word(wide(k) * period - 1),
+        4 => frame[4] = word((wide(k) + 1) * period - wide(wire) + rng.pick(&[0, 1, 1])),
+        5 => frame[4] = rng.pick(&[u32::MAX, 0_u32.wrapping_sub(wire), 1 << 31]),
+        _ => plan.streams[stream as usize][4] = plan.cycle,
+    }
+    Some(())
+}
+
+pub fn frame_count(plan: &mut Plan, rng: &mut Rng) -> Option<()> {
+    if rng.chance(20) {
+        let (sender, receiver) = task_pair(plan, |a, b| may_talk(plan, a, b), rng)?;
+        return insert_stream(plan, [sender, receiver, 0, 1, 1]);
+    }
+    let row = any_row(&plan.frames, rng)?;
+    let frame = plan.frames[row];
+    let hops = plan.streams[frame[0] as usize][3];
+    match rng.below(5) {
+        0 => {
+            plan.frames.remove(row);
+        }
+        1 => insert(&mut plan.frames, FRAME, frame, rng)?,
+        2 if hops > 1 => plan.frames[row][2] = (frame[2] + 1) % hops,
+        3 if hops < 8 => plan.streams[frame[0] as usize][3] = hops + 1,
+        _ => {
+            let other = any_row(&plan.frames, rng)?;
+            let [_, k, _, _, start] = plan.frames[other];
+            (plan.frames[row][1], plan.frames[row][4]) = (k, start);
+        }
+    }
+    Some(())
+}
+
+pub fn route(plan: &mut Plan, rng: &mut Rng) -> Option<()> {
+    let row = any_row(&plan.frames, rng)?;
+    let [stream, _, _, link, _] = plan.frames[row];
+    let [from, to, delay] = plan.links[link as usize];
+    match rng.below(6) {
+        0 => {
+            let differs = |other: usize| plan.links[other][..2] != plan.links[link as usize][..2];
+            let other = any_where(plan.links.len(), differs, rng)?;
+            plan.frames[row][3] = other as u32;
+            Some(())
+        }
+        1 => {
+            plan.links[link as usize] = [to, from, delay];
+            Some(())
+        }
+        2 => {
+            plan.streams[stream as usize].swap(0, 1);
+            Some(())
+        }
+        3 => {
+            plan.links[link as usize][1] = other_node(from, to);
+            Some(())
+        }
+        // A detour that leaves all other hops as they are.
+        4 => move_to_new_link(plan, row, [other_node(from, to), to, delay]),
+        _ => move_to_new_link(plan, row, [from, other_node(from, to), delay]),
+    }
+}
+
+/// A node that is neither end of a link.
+fn other_node(from: u32, to: u32) -> u32 {
+    let node = (to + 1) % 16;
+    if node == from {
+        (to + 2) % 16
+    } else {
+        node
+    }
+}
+
+/// The row of the frame of a stream, job and hop.
+fn frame_row(plan: &Plan, stream: u32, k: u32, hop: u32) -> Option<usize> {
+    let is_it = |frame: &[u32; 5]| frame[..3] == [stream, k, hop];
+    plan.frames.iter().position(is_it)
+}
+
+/// A frame's end + delay + P.
+fn arrival(plan: &Plan, frame: usize) -> i64 {
+    let [stream, _, _, link, start] = plan.frames[frame];
+    let wire = plan.streams[stream as usize][4];
+    wide(start) + wide(wire) + wide(plan.links[link as usize][2]) + wide(plan.precision)
+}
+
+pub fn hop_order(plan: &mut Plan, rng: &mut Rng) -> Option<()> {
+    let later = |row: usize| plan.frames[row][2] > 0;
+    let row = any_where(plan.frames.len(), later, rng)?;
+    let [stream, k, hop, _, start] = plan.frames[row];
+    let previous = frame_row(plan, stream, k, hop - 1)?;
+    let bound = arrival(plan, previous);
+    let spare = word(wide(start) - bound);
+    let excess = rng.pick(&[0, 1, 1, 1]);
+    match rng.below(4) {
+        0 => {
+            let link = plan.frames[previous][3] as usize;
+            let delay = plan.links[link][2].wrapping_add(spare);
+            plan.links[link][2] = delay.wrapping_add(excess);
+        }
+        1 => plan.precision = plan.precision.wrapping_add(spare).wrapping_add(excess),
+        2 => plan.frames[row][4] = word(bound - wide(plan.precision) - wide(excess)),
+        _ => plan.frames[row][4] = word(bound - wide(excess)),
+    }
+    Some(())
+}
+
+pub fn frame_clash(plan: &mut Plan, rng: &mut Rng) -> Option<()> {
+    match rng.below(10) {
+        0..=3 => {
+            let stream = any_row(&plan.streams, rng)?;
+            let late = rng.within(0..=plan.streams[stream][4]);
+            second_stream(plan, stream, late, rng)
+        }
+        4 => {
+            let stream = any_row(&plan.streams, rng)?;
+            let wire = plan.streams[stream][4];
+            plan.streams[stream][4] = wire.wrapping_add(rng.within(1..=3));
+            Some(())
+        }
+        5 => {
+            let row = any_row(&plan.frames, rng)?;
+            let ends = |link: usize| plan.links[link][..2].to_vec();
+            let own = plan.frames[row][3] as usize;
+            let other = any_where(plan.links.len(), |link| ends(link) == ends(own), rng)?;
+            plan.frames[row][3] = other as u32;
+            Some(())
+        }
+        _ => move_onto_frame(plan, rng),
+    }
+}
+
+/// Moves a frame onto another, or next to it, where its job and the hops
+/// before and after leave it room. The other's link has the same ends.
+fn move_onto_frame(plan: &mut Plan, rng: &mut Rng) -> Option<()> {
+    let row = any_row(&plan.frames, rng)?;
+    let [_, k, _, link, _] = plan.frames[row];
+    let ends = |link: u32| &plan.links[link as usize][..2];
+    let room = frame_room(plan, row);
+    let wire = |row: usize| wide(plan.streams[plan.frames[row][0] as usize][4]);
+    let starts = |other: usize| {
+        let start = wide(plan.frames[other][4]);
+        let first = room.0.max(start - wire(row) + 1);
+        let last = room.1.min(start + wire(other) - 1);
+        (first <= last).then_some((first, last))
+    };
+    let other_jobs = rng.chance(50);
+    let serves = |other: usize| {
+        let differs = !other_jobs || plan.frames[other][1] != k;
+        let beside = ends(plan.frames[other][3]) == ends(link);
+        other != row && beside && differs && starts(other).is_some()
+    };
+    let other = any_where(plan.frames.len(), serves, rng)?;
+    let (first, last) = starts(other)?;
+    let any = first + rng.below((last - first) as usize + 1) as i64;
+    plan.frames[row][3] = plan.frames[other][3];
+    plan.frames[row][4] = word(rng.pick(&[first, first - 1, last, last + 1, any]));
+    Some(())
+}
+
+/// The first and last start that questions 15 and 18 leave a frame.
+fn frame_room(plan: &Plan, row: usize) -> (i64, i64) {
+    let [stream, k, hop, _, start] = plan.frames[row];
+    let [sender, _, _, _, wire] = plan.streams[stream as usize];
+    let period = wide(plan.period(sender));
+    let before = hop.checked_sub(1);
+    let before = before.and_then(|hop| frame_row(plan, stream, k, hop));
+    let after = frame_row(plan, stream, k, hop + 1);
+    let first = wide(k) * period;
+    let first = before.map_or(first, |before| first.max(arrival(plan, before)));
+    let last = (wide(k) + 1) * period - wide(wire);
+    let taken = arrival(plan, row) - wide(start);
+    let last = after.map_or(last, |after| last.min(wide(plan.frames[after][4]) - taken));
+    (first, last)
+}
+
+/// A second stream beside one, its frames on the same links, so much later.
+fn second_stream(plan: &mut Plan, stream: usize, late: u32, rng: &mut Rng) -> Option<()> {
+    let second = plan.streams.len() as u32;
+    insert_stream(plan, plan.streams[stream])?;
+    let of_stream = |frame: &&[u32; 5]| frame[0] as usize == stream;
+    let frames: Vec<[u32; 5]> = plan.frames.iter().filter(of_stream).copied().collect();
+    for [_, k, hop, link, start] in frames {
+        let frame = [second, k, hop, link, start.wrapping_add(late)];
+        insert(&mut plan.frames, FRAME, frame, rng)?;
+    }
+    Some(())
+}
+
+pub fn message_order(plan: &mut Plan, rng: &mut Rng) -> Option<()> {
+    let stream = any_row(&plan.streams, rng)?;
+    let [sender, receiver, _, hops, _] = plan.streams[stream];
+    let k = rng.below(plan.jobs(sender).max(1) as usize) as u32;
+    let (sender_start, sender_end) = job_span(plan, sender, k)?;
+    let (receiver_start, _) = job_span(plan, receiver, k)?;
+    let first = frame_row(plan, stream as u32, k, 0)?;
+    let last = frame_row(plan, stream as u32, k, hops.wrapping_sub(1))?;
+    let spare = word(receiver_start - arrival(plan, last));
+    let excess = rng.pick(&[0, 1, 1, 1]);
+    if rng.chance(40) {
+        own_link(plan, first)?;
+        own_link(plan, last)?;
+    }
+    match rng.below(5) {
+        0 => plan.frames[first][4] = word(sender_end - wide(excess)),
+        1 => plan.frames[first][4] = word(sender_start),
+        2 => plan.precision = plan.precision.wrapping_add(spare).wrapping_add(excess),
+        3 => {
+            let link = plan.frames[last][3] as usize;
+            let delay = plan.links[link][2].wrapping_add(spare);
+            plan.links[link][2] = delay.wrapping_add(excess);
+        }
+        _ => {
+            let start = plan.frames[last][4].wrapping_add(spare);
+            plan.frames[last][4] = start.wrapping_add(excess);
+        }
+    }
+    Some(())
+}
+
+/// Moves a frame to a new link beside its own.
+fn own_link(plan: &mut Plan, frame: usize) -> Option<()> {
+    let beside = plan.links[plan.frames[frame][3] as usize];
+    move_to_new_link(plan, frame, beside)
+}
+
+fn move_to_new_link(plan: &mut Plan, frame: usize, link: [u32; 3]) -> Option<()> {
+    plan.frames[frame][3] = plan.links.len() as u32;
+    plan.links.push(link);
+    (plan.links.len() <= ROW_BOUNDS[LINK as usize - 1].1 as usize).then_some(())
+}
+
+pub fn latency(plan: &mut Plan, rng: &mut Rng) -> Option<()> {
+    let beyond_period = |stream: usize| {
+        let period = plan.period(plan.streams[stream][0]);
+        least_latency(plan, stream).is_some_and(|least| least > wide(period))
+    };
+    if rng.chance(20) {
+        let stream = any_where(plan.streams.len(), beyond_period, rng)?;
+        plan.streams[stream][2] = 0;
+        return Some(());
+    }
+    let stream = any_row(&plan.streams, rng)?;
+    let least = word(least_latency(plan, stream)?);
+    let bounds = [least.wrapping_sub(1), least.wrapping_sub(1), least, 1, 0];
+    plan.streams[stream][2] = rng.pick(&bounds);
+    Some(())
+}
+
+/// The least E that question 21 bears, if not written as 0.
+fn least_latency(plan: &Plan, stream: usize) -> Option<i64> {
+    let [sender, receiver, ..] = plan.streams[stream];
+    let jobs = plan.jobs(sender).min(2_048);
+    let taken = (0..jobs).filter_map(|k| {
+        let (start, _) = job_span(plan, sender, k)?;
+        let (_, end) = job_span(plan, receiver, k)?;
+        Some(end - start)
+    });
+    Some(taken.max()? + wide(plan.precision))
+}

@@ -1,0 +1,762 @@
+//! A deliberately naive twin: the paper's sentences, one by one, over all
+//! rows, pairs and ticks. It shares no code with the rest but the answer,
+//! the state and the boundary's trait, and is there to be compared with.
+
+use crate::answer::Answer;
+use crate::boundary::Boundary;
+use crate::dispatch::State;
+
+/// A number that no sum or product of words comes near the ends of.
+type Number = i128;
+
+/// By table number; the tables count from 1.
+const WORDS_OF_A_ROW: [Number; 10] = [0, 3, 1, 5, 3, 4, 3, 5, 5, 3];
+const LEAST_ROWS: [Number; 10] = [0, 1, 0, 0, 0, 0, 0, 0, 0, 0];
+const MOST_ROWS: [Number; 10] = [0, 32, 64, 256, 1024, 2048, 64, 64, 512, 64];
+
+const CORE: usize = 1;
+const VCPU: usize = 2;
+const TASK: usize = 3;
+const WINDOW: usize = 4;
+const PIECE: usize = 5;
+const LINK: usize = 6;
+const STREAM: usize = 7;
+const FRAME: usize = 8;
+const BUFFER: usize = 9;
+
+/// Where a question is answered no.
+enum No {
+    Plain,
+    Row(usize, Number),
+}
+
+/// Questions 1 to 24.
+pub fn check(image: &[u8]) -> Answer {
+    let asked = Image { bytes: image };
+    for number in 1..=24 {
+        match asked.question(number) {
+            None => {}
+            Some(No::Plain) => return Answer::plain(number),
+            Some(No::Row(table, row)) => return Answer::at(number, table as u32, row as u32),
+        }
+    }
+    Answer::ACCEPTED
+}
+
+/// Questions 1 to 26, then the table.
+pub fn build(image: &[u8], lane: u32, words: &mut [u32]) -> Answer {
+    let answer = check(image);
+    if !answer.is_accepted() {
+        return answer;
+    }
+    let plan = Image { bytes: image };
+    if Number::from(lane) >= plan.rows(CORE) + plan.rows(LINK) {
+        return Answer::plain(25);
+    }
+    let table = plan.table(Number::from(lane));
+    if words.len() < table.len() {
+        return Answer::plain(26);
+    }
+    for (index, word) in table.iter().enumerate() {
+        words[index] = *word as u32;
+    }
+    Answer::ACCEPTED
+}
+
+struct Image<'a> {
+    bytes: &'a [u8],
+}
+
+/// Reading the image.
+impl Image<'_> {
+    fn length(&self) -> Number {
+        self.bytes.len() as Number
+    }
+
+    fn word(&self, byte: Number) -> Number {
+        let byte = |index: Number| Number::from(self.bytes[(byte + index) as usize]);
+        byte(0) + 256 * byte(1) + 256 * 256 * byte(2) + 256 * 256 * 256 * byte(3)
+    }
+
+    fn last_word(&self) -> Number {
+        self.word(self.length() - 4)
+    }
+
+    fn trailer(&self, index: Number) -> Number {
+        self.word(self.length() - 84 + 4 * index)
+    }
+
+    fn cycle(&self) -> Number {
+        self.trailer(0)
+    }
+
+    fn precision(&self) -> Number {
+        self.trailer(1)
+    }
+
+    fn offset(&self, table: usize) -> Number {
+        self.trailer(2 * table as Number)
+    }
+
+    fn rows(&self, table: usize) -> Number {
+        self.trailer(2 * table as Number + 1)
+    }
+
+    fn end(&self, table: usize) -> Number {
+        self.offset(table) + 4 * WORDS_OF_A_ROW[table] * self.rows(table)
+    }
+
+    fn cell(&self, table: usize, row: Number, column: Number) -> Number {
+        self.word(self.offset(table) + 4 * (WORDS_OF_A_ROW[table] * row + column))
+    }
+}
+
+/// Names for the columns.
+impl Image<'_> {
+    fn node(&self, core: Number) -> Number {
+        self.cell(CORE, core, 0)
+    }
+    fn d(&self, core: Number) -> Number {
+        self.cell(CORE, core, 1)
+    }
+    fn v(&self, core: Number) -> Number {
+        self.cell(CORE, core, 2)
+    }
+    fn vcpu_core(&self, vcpu: Number) -> Number {
+        self.cell(VCPU, vcpu, 0)
+    }
+    fn task_vcpu(&self, task: Number) -> Number {
+        self.cell(TASK, task, 0)
+    }
+    fn task_core(&self, task: Number) -> Number {
+        self.vcpu_core(self.task_vcpu(task))
+    }
+    fn task_node(&self, task: Number) -> Number {
+        self.node(self.task_core(task))
+    }
+    fn period(&self, task: Number) -> Number {
+        self.cell(TASK, task, 2)
+    }
+    fn budget(&self, task: Number) -> Number {
+        self.cell(TASK, task, 3)
+    }
+    fn deadline(&self, task: Number) -> Number {
+        self.cell(TASK, task, 4)
+    }
+    fn window_core(&self, window: Number) -> Number {
+        self.vcpu_core(self.cell(WINDOW, window, 0))
+    }
+    fn window_start(&self, window: Number) -> Number {
+        self.cell(WINDOW, window, 1)
+    }
+    fn window_length(&self, window: Number) -> Number {
+        self.cell(WINDOW, window, 2)
+    }
+    fn window_end(&self, window: Number) -> Number {
+        self.window_start(window) + self.window_length(window)
+    }
+    fn piece_task(&self, piece: Number) -> Number {
+        self.cell(PIECE, piece, 0)
+    }
+    fn piece_job(&self, piece: Number) -> Number {
+        self.cell(PIECE, piece, 1)
+    }
+    fn piece_core(&self, piece: Number) -> Number {
+        self.task_core(self.piece_task(piece))
+    }
+    fn piece_start(&self, piece: Number) -> Number {
+        self.cell(PIECE, piece, 2)
+    }
+    fn piece_length(&self, piece: Number) -> Number {
+        self.cell(PIECE, piece, 3)
+    }
+    fn piece_end(&self, piece: Number) -> Number {
+        self.piece_start(piece) + self.piece_length(piece)
+    }
+    fn link_from(&self, link: Number) -> Number {
+        self.cell(LINK, link, 0)
+    }
+    fn link_to(&self, link: Number) -> Number {
+        self.cell(LINK, link, 1)
+    }
+    fn delay(&self, link: Number) -> Number {
+        self.cell(LINK, link, 2)
+    }
+    fn sender(&self, stream: Number) -> Number {
+        self.cell(STREAM, stream, 0)
+    }
+    fn receiver(&self, stream: Number) -> Number {
+        self.cell(STREAM, stream, 1)
+    }
+    fn latency(&self, stream: Number) -> Number {
+        self.cell(STREAM, stream, 2)
+    }
+    fn hops(&self, stream: Number) -> Number {
+        self.cell(STREAM, stream, 3)
+    }
+    fn wire(&self, stream: Number) -> Number {
+        self.cell(STREAM, stream, 4)
+    }
+    fn frame_stream(&self, frame: Number) -> Number {
+        self.cell(FRAME, frame, 0)
+    }
+    fn frame_job(&self, frame: Number) -> Number {
+        self.cell(FRAME, frame, 1)
+    }
+    fn frame_hop(&self, frame: Number) -> Number {
+        self.cell(FRAME, frame, 2)
+    }
+    fn frame_link(&self, frame: Number) -> Number {
+        self.cell(FRAME, frame, 3)
+    }
+    fn frame_start(&self, frame: Number) -> Number {
+        self.cell(FRAME, frame, 4)
+    }
+    fn frame_end(&self, frame: Number) -> Number {
+        self.frame_start(frame) + self.wire(self.frame_stream(frame))
+    }
+    fn buffer_number(&self, buffer: Number) -> Number {
+        self.cell(BUFFER, buffer, 0)
+    }
+    fn writer(&self, buffer: Number) -> Number {
+        self.cell(BUFFER, buffer, 1)
+    }
+    fn reader(&self, buffer: Number) -> Number {
+        self.cell(BUFFER, buffer, 2)
+    }
+}
+
+/// What the paper's words before the questions say.
+impl Image<'_> {
+    fn jobs(&self, task: Number) -> Number {
+        self.cycle() / self.period(task)
+    }
+
+    fn pieces_of(&self, task: Number, job: Number) -> Vec<Number> {
+        let of_job =
+            |piece: &Number| self.piece_task(*piece) == task && self.piece_job(*piece) == job;
+        (0..self.rows(PIECE)).filter(of_job).collect()
+    }
+
+    fn first_start(&self, task: Number, job: Number) -> Number {
+        let pieces = self.pieces_of(task, job);
+        let starts = pieces.iter().map(|piece| self.piece_start(*piece));
+        starts.min().expect("13 is answered yes")
+    }
+
+    fn last_end(&self, task: Number, job: Number) -> Number {
+        let pieces = self.pieces_of(task, job);
+        let ends = pieces.iter().map(|piece| self.piece_end(*piece));
+        ends.max().expect("13 is answered yes")
+    }
+
+    fn frames_of(&self, stream: Number, job: Number, hop: Number) -> Vec<Number> {
+        let of_hop = |frame: &Number| {
+            self.frame_stream(*frame) == stream
+                && self.frame_job(*frame) == job
+                && self.frame_hop(*frame) == hop
+        };
+        (0..self.rows(FRAME)).filter(of_hop).collect()
+    }
+
+    /// The one frame of a stream, job and hop, after question 16.
+    fn frame_of(&self, stream: Number, job: Number, hop: Number) -> Number {
+        self.frames_of(stream, job, hop)[0]
+    }
+
+    fn arrival(&self, frame: Number) -> Number {
+        self.frame_end(frame) + self.delay(self.frame_link(frame)) + self.precision()
+    }
+}
+
+fn overlap(a: Number, b: Number, c: Number, d: Number) -> bool {
+    a < d && c < b
+}
+
+/// The questions.
+impl Image<'_> {
+    fn question(&self, number: u32) -> Option<No> {
+        match number {
+            1 => plain((84..=63_956).contains(&self.length())),
+            2 => plain(self.last_word() == self.length() - 84),
+            3 => plain(self.layout_is_right()),
+            4 => plain((1..=1_000_000).contains(&self.cycle()) && self.precision() <= 10_000),
+            5 => self.each_row(|table, row| self.row_numbers_exist(table, row)),
+            6 => self.each_row(|table, row| self.values_in_range(table, row)),
+            7 => self.each(WINDOW, |window| self.window_fits(window)),
+            8 => self.no_pair(WINDOW, |low, high| self.windows_clash(low, high)),
+            9 => self.each(TASK, |task| self.mask_allows(task)),
+            10 => self.each(PIECE, |piece| self.piece_in_job(piece)),
+            11 => self.each(PIECE, |piece| self.piece_in_window(piece)),
+            12 => self.no_pair(PIECE, |low, high| self.pieces_clash(low, high)),
+            13 => self.each(TASK, |task| self.pieces_sum(task)),
+            14 => self.each(STREAM, |stream| self.ends_match(stream)),
+            15 => self.each(FRAME, |frame| self.frame_in_job(frame)),
+            16 => self.each(STREAM, |stream| self.one_frame_each(stream)),
+            17 => self.each(STREAM, |stream| self.routes_lead(stream)),
+            18 => self.each(FRAME, |frame| self.follows_hop(frame)),
+            19 => self.no_pair(FRAME, |low, high| self.frames_clash(low, high)),
+            20 => self.each(STREAM, |stream| self.message_in_order(stream)),
+            21 => self.each(STREAM, |stream| self.message_in_time(stream)),
+            22 => self.each(BUFFER, |buffer| self.sides_match(buffer)),
+            23 => self.each(BUFFER, |buffer| self.read_after_write(buffer)),
+            24 => self.no_pair(BUFFER, |low, high| self.holds_clash(low, high)),
+            _ => None,
+        }
+    }
+
+    /// All rows of all tables, lowest table first, then lowest row.
+    fn each_row(&self, yes: impl Fn(usize, Number) -> bool) -> Option<No> {
+        (1..=9).find_map(|table| self.each(table, |row| yes(table, row)))
+    }
+
+    fn each(&self, table: usize, yes: impl Fn(Number) -> bool) -> Option<No> {
+        let no = (0..self.rows(table)).find(|row| !yes(*row));
+        no.map(|row| No::Row(table, row))
+    }
+
+    /// The lowest row that clashes with a lower one.
+    fn no_pair(&self, table: usize, clash: impl Fn(Number, Number) -> bool) -> Option<No> {
+        self.each(table, |high| !(0..high).any(|low| clash(low, high)))
+    }
+
+    fn layout_is_right(&self) -> bool {
+        let bounds =
+            |table: usize| (LEAST_ROWS[table]..=MOST_ROWS[table]).contains(&self.rows(table));
+        (1..=9).all(bounds)
+            && self.offset(1) == 0
+            && (2..=9).all(|table| self.offset(table) == self.end(table - 1))
+            && self.end(9) == self.last_word()
+    }
+
+    fn row_numbers_exist(&self, table: usize, row: Number) -> bool {
+        let names = |column: Number, named: usize| self.cell(table, row, column) < self.rows(named);
+        match table {
+            VCPU => names(0, CORE),
+            TASK => names(0, VCPU),
+            WINDOW => names(0, VCPU),
+            PIECE => names(0, TASK),
+            STREAM => names(0, TASK) && names(1, TASK),
+            FRAME => names(0, STREAM) && names(3, LINK),
+            BUFFER => names(1, TASK) && names(2, TASK),
+            _ => true,
+        }
+    }
+
+    fn values_in_range(&self, table: usize, row: Number) -> bool {
+        match table {
+            CORE => self.node(row) <= 15 && self.d(row) <= 1_000 && self.v(row) <= 1_000,
+            TASK => {
+                1 <= self.period(row)
+                    && self.cycle() % self.period(row) == 0
+                    && 1 <= self.budget(row)
+                    && self.budget(row) <= self.deadline(row)
+                    && self.deadline(row) <= self.period(row)
+            }
+            LINK => {
+                self.link_from(row) <= 15
+                    && self.link_to(row) <= 15
+                    && self.link_from(row) != self.link_to(row)
+                    && self.delay(row) <= 1_000_000
+            }
+            STREAM => {
+                self.sender(row) != self.receiver(row)
+                    && self.latency(row) <= 1_000_000
+                    && (1..=8).contains(&self.hops(row))
+                    && (1..=self.cycle()).contains(&self.wire(row))
+            }
+            BUFFER => self.buffer_number(row) <= 63 && self.writer(row) != self.reader(row),
+            _ => true,
+        }
+    }
+
+    fn window_fits(&self, window: Number) -> bool {
+        self.window_length(window) > self.v(self.window_core(window))
+            && self.window_end(window) <= self.cycle()
+    }
+
+    fn windows_clash(&self, low: Number, high: Number) -> bool {
+        self.window_core(low) == self.window_core(high)
+            && overlap(
+                self.window_start(low),
+                self.window_end(low),
+                self.window_start(high),
+                self.window_end(high),
+            )
+    }
+
+    fn mask_allows(&self, task: Number) -> bool {
+        let bit = (0..self.task_core(task)).fold(1, |bit, _| 2 * bit);
+        self.cell(TASK, task, 1) / bit % 2 == 1
+    }
+
+    fn piece_in_job(&self, piece: Number) -> bool {
+        let (task, job) = (self.piece_task(piece), self.piece_job(piece));
+        let release = job * self.period(task);
+        let due = release + self.deadline(task);
+        job < self.jobs(task)
+            && self.piece_length(piece) > self.d(self.piece_core(piece))
+            && release <= self.piece_start(piece)
+            && self.piece_end(piece) <= due
+    }
+
+    fn piece_in_window(&self, piece: Number) -> bool {
+        let vcpu = self.task_vcpu(self.piece_task(piece));
+        let v = self.v(self.vcpu_core(vcpu));
+        (0..self.rows(WINDOW)).any(|window| {
+            self.cell(WINDOW, window, 0) == vcpu
+                && self.window_start(window) + v <= self.piece_start(piece)
+                && self.piece_end(piece) <= self.window_end(window)
+        })
+    }
+
+    fn pieces_clash(&self, low: Number, high: Number) -> bool {
+        self.piece_core(low) == self.piece_core(high)
+            && overlap(
+                self.piece_start(low),
+                self.piece_end(low),
+                self.piece_start(high),
+                self.piece_end(high),
+            )
+    }
+
+    fn pieces_sum(&self, task: Number) -> bool {
+        (0..self.jobs(task)).all(|job| {
+            let pieces = self.pieces_of(task, job);
+            let lengths = pieces.iter().map(|piece| self.piece_length(*piece));
+            let count = pieces.len() as Number;
+            lengths.sum::<Number>() == self.budget(task) + count * self.d(self.task_core(task))
+        })
+    }
+
+    fn ends_match(&self, stream: Number) -> bool {
+        let (sender, receiver) = (self.sender(stream), self.receiver(stream));
+        self.period(sender) == self.period(receiver)
+            && self.task_node(sender) != self.task_node(receiver)
+    }
+
+    fn frame_in_job(&self, frame: Number) -> bool {
+        let (stream, job) = (self.frame_stream(frame), self.frame_job(frame));
+        let period = self.period(self.sender(stream));
+        job < self.jobs(self.sender(stream))
+            && self.frame_hop(frame) < self.hops(stream)
+            && job * period <= self.frame_start(frame)
+            && self.frame_end(frame) <= (job + 1) * period
+    }
+
+    fn one_frame_each(&self, stream: Number) -> bool {
+        (0..self.jobs(self.sender(stream))).all(|job| {
+            (0..self.hops(stream)).all(|hop| self.frames_of(stream, job, hop).len() == 1)
+        })
+    }
+
+    fn routes_lead(&self, stream: Number) -> bool {
+        let from = self.task_node(self.sender(stream));
+        (0..self.jobs(self.sender(stream))).all(|job| self.walk_leads(stream, job, 0, from))
+    }
+
+    /// Whether the hops that remain lead from a node to the receiver's.
+    fn walk_leads(&self, stream: Number, job: Number, hop: Number, node: Number) -> bool {
+        if hop == self.hops(stream) {
+            return node == self.task_node(self.receiver(stream));
+        }
+        let link = self.frame_link(self.frame_of(stream, job, hop));
+        self.link_from(link) == node && self.walk_leads(stream, job, hop + 1, self.link_to(link))
+    }
+
+    fn follows_hop(&self, frame: Number) -> bool {
+        let (stream, job) = (self.frame_stream(frame), self.frame_job(frame));
+        let hop = self.frame_hop(frame);
+        hop == 0 || {
+            let previous = self.frame_of(stream, job, hop - 1);
+            self.frame_start(frame) >= self.arrival(previous)
+        }
+    }
+
+    fn frames_clash(&self, low: Number, high: Number) -> bool {
+        self.frame_link(low) == self.frame_link(high)
+            && overlap(
+                self.frame_start(low),
+                self.frame_end(low),
+                self.frame_start(high),
+                self.frame_end(high),
+            )
+    }
+
+    fn message_in_order(&self, stream: Number) -> bool {
+        let (sender, receiver) = (self.sender(stream), self.receiver(stream));
+        (0..self.jobs(sender)).all(|job| {
+            let first_hop = self.frame_of(stream, job, 0);
+            let last_hop = self.frame_of(stream, job, self.hops(stream) - 1);
+            self.frame_start(first_hop) >= self.last_end(sender, job)
+                && self.first_start(receiver, job) >= self.arrival(last_hop)
+        })
+    }
+
+    fn message_in_time(&self, stream: Number) -> bool {
+        let (sender, receiver) = (self.sender(stream), self.receiver(stream));
+        let bound = if self.latency(stream) == 0 {
+            self.period(sender)
+        } else {
+            self.latency(stream)
+        };
+        (0..self.jobs(sender)).all(|job| {
+            let taken = self.last_end(receiver, job) - self.first_start(sender, job);
+            taken + self.precision() <= bound
+        })
+    }
+
+    fn sides_match(&self, buffer: Number) -> bool {
+        let (writer, reader) = (self.writer(buffer), self.reader(buffer));
+        self.period(writer) == self.period(reader)
+            && self.task_node(writer) == self.task_node(reader)
+    }
+
+    fn read_after_write(&self, buffer: Number) -> bool {
+        let (writer, reader) = (self.writer(buffer), self.reader(buffer));
+        (0..self.jobs(writer))
+            .all(|job| self.first_start(reader, job) >= self.last_end(writer, job))
+    }
+
+    fn holds_clash(&self, low: Number, high: Number) -> bool {
+        let one_buffer = self.buffer_number(low) == self.buffer_number(high)
+            && self.task_node(self.writer(low)) == self.task_node(self.writer(high));
+        one_buffer
+            && self.holds(low).iter().any(|&(a, b)| {
+                let holds = self.holds(high);
+                holds.iter().any(|&(c, d)| overlap(a, b, c, d))
+            })
+    }
+
+    fn holds(&self, buffer: Number) -> Vec<(Number, Number)> {
+        let (writer, reader) = (self.writer(buffer), self.reader(buffer));
+        let hold = |job| (self.first_start(writer, job), self.last_end(reader, job));
+        (0..self.jobs(writer)).map(hold).collect()
+    }
+}
+
+fn plain(yes: bool) -> Option<No> {
+    if yes {
+        None
+    } else {
+        Some(No::Plain)
+    }
+}
+
+/// The tables, tick by tick.
+impl Image<'_> {
+    fn table(&self, lane: Number) -> Vec<Number> {
+        let mut entries: Vec<[Number; 3]> = Vec::new();
+        for tick in 0..self.cycle() {
+            let (kind, row) = self.shown(lane, tick);
+            let same = |last: &[Number; 3]| last[1] == kind && last[2] == row;
+            if !entries.last().is_some_and(same) {
+                entries.push([tick, kind, row]);
+            }
+        }
+        let mut table = vec![self.cycle(), entries.len() as Number];
+        table.extend(entries.iter().flatten());
+        table
+    }
+
+    /// What a lane shows at a tick: kind and row.
+    fn shown(&self, lane: Number, tick: Number) -> (Number, Number) {
+        if lane < self.rows(CORE) {
+            self.shown_on_core(lane, tick)
+        } else {
+            self.shown_on_link(lane - self.rows(CORE), tick)
+        }
+    }
+
+    fn shown_on_core(&self, core: Number, tick: Number) -> (Number, Number) {
+        for piece in 0..self.rows(PIECE) {
+            let start = self.piece_start(piece);
+            if self.piece_core(piece) == core && start <= tick && tick < self.piece_end(piece) {
+                let kind = if tick < start + self.d(core) { 3 } else { 4 };
+                return (kind, piece);
+            }
+        }
+        for window in 0..self.rows(WINDOW) {
+            let start = self.window_start(window);
+            if self.window_core(window) == core && start <= tick && tick < self.window_end(window) {
+                let kind = if tick < start + self.v(core) { 1 } else { 2 };
+                return (kind, window);
+            }
+        }
+        (0, 0)
+    }
+
+    fn shown_on_link(&self, link: Number, tick: Number) -> (Number, Number) {
+        let sends = |frame: &Number| {
+            self.frame_link(*frame) == link
+                && self.frame_start(*frame) <= tick
+                && tick < self.frame_end(*frame)
+        };
+        match (0..self.rows(FRAME)).find(sends) {
+            Some(frame) => (5, frame),
+            None => (0, 0),
+        }
+    }
+}
+
+/// Steps one lane, word by word.
+pub fn step(words: &[u32], state: &mut State) -> u32 {
+    let refusal = refused(words, state);
+    if refusal == 0 {
+        *state = moved(words, state);
+    }
+    refusal
+}
+
+/// Steps all lanes, or none.
+pub fn step_all(words: &[u32], states: &mut [State]) -> u32 {
+    for state in states.iter() {
+        let refusal = refused(words, state);
+        if refusal != 0 {
+            return refusal;
+        }
+    }
+    for state in states.iter_mut() {
+        *state = moved(words, state);
+    }
+    0
+}
+
+/// A word of the state's table.
+fn table_word(words: &[u32], state: &State, index: Number) -> Number {
+    Number::from(words[(Number::from(state.first) + index) as usize])
+}
+
+fn first_tick(words: &[u32], state: &State, entry: Number) -> Number {
+    table_word(words, state, 2 + 3 * entry)
+}
+
+fn refused(words: &[u32], state: &State) -> u32 {
+    let room = words.len() as Number - Number::from(state.first);
+    if room < 2 || room < 2 + 3 * table_word(words, state, 1) {
+        return 27;
+    }
+    let (tick, entry) = (Number::from(state.tick), Number::from(state.entry));
+    let (cycle, count) = (table_word(words, state, 0), table_word(words, state, 1));
+    if entry >= count || tick >= cycle || first_tick(words, state, entry) > tick {
+        return 27;
+    }
+    if entry + 1 < count && first_tick(words, state, entry + 1) <= tick {
+        return 27;
+    }
+    if state.cycle == u64::MAX && tick == cycle - 1 {
+        return 28;
+    }
+    0
+}
+
+fn moved(words: &[u32], state: &State) -> State {
+    let (tick, entry) = (Number::from(state.tick), Number::from(state.entry));
+    let (cycle, count) = (table_word(words, state, 0), table_word(words, state, 1));
+    let mut next = *state;
+    next.kind = table_word(words, state, 2 + 3 * entry + 1) as u32;
+    next.row = table_word(words, state, 2 + 3 * entry + 2) as u32;
+    if tick == cycle - 1 {
+        next.cycle = state.cycle + 1;
+        next.tick = 0;
+        next.entry = 0;
+        return next;
+    }
+    next.tick = (tick + 1) as u32;
+    if entry + 1 < count && first_tick(words, state, entry + 1) <= tick + 1 {
+        next.entry = (entry + 1) as u32;
+    }
+    next
+}
+
+/// The naive twin at the byte boundary.
+pub struct Naive;
+
+impl Boundary for Naive {
+    fn check(&self, image: &[u8]) -> u64 {
+        check(image).code()
+    }
+
+    fn build(&self, image: &[u8], lane: u32, words: &mut [u8]) -> u64 {
+        let mut row: Vec<u32> = (0..words.len() / 4).map(|i| word(words, i)).collect();
+        let answer = build(image, lane, &mut row);
+        for (index, word) in row.iter().enumerate() {
+            set_word(words, index, *word);
+        }
+        answer.code()
+    }
+
+    fn start(&self, cycle: u64, first: u32, state: &mut [u8]) -> u32 {
+        if state.len() != 28 {
+            return 27;
+        }
+        let fields = [cycle as u32, (cycle >> 32) as u32, 0, 0, first, 0, 0];
+        for (index, field) in fields.iter().enumerate() {
+            set_word(state, index, *field);
+        }
+        0
+    }
+
+    fn step(&self, words: &[u8], state: &mut [u8]) -> u32 {
+        if state.len() != 28 {
+            return 27;
+        }
+        self.step_all(words, state)
+    }
+
+    fn step_all(&self, words: &[u8], states: &mut [u8]) -> u32 {
+        let row: Vec<u32> = (0..words.len() / 4).map(|i| word(words, i)).collect();
+        let records = states.len() / 28;
+        let mut moved_states = Vec::new();
+        for record in 0..records {
+            let mut state = record_at(states, record);
+            let refusal = step(&row, &mut state);
+            if refusal != 0 {
+                return refusal;
+            }
+            moved_states.push(state);
+        }
+        if !states.len().is_multiple_of(28) {
+            return 27;
+        }
+        for (record, state) in moved_states.iter().enumerate() {
+            set_record(states, record, state);
+        }
+        0
+    }
+}
+
+fn word(bytes: &[u8], index: usize) -> u32 {
+    (0..4).fold(0, |word, byte| {
+        word + (u32::from(bytes[4 * index + byte]) << (8 * byte))
+    })
+}
+
+fn set_word(bytes: &mut [u8], index: usize, word: u32) {
+    for byte in 0..4 {
+        bytes[4 * index + byte] = (word >> (8 * byte)) as u8;
+    }
+}
+
+fn record_at(states: &[u8], record: usize) -> State {
+    let field = |index: usize| word(states, 7 * record + index);
+    State {
+        cycle: u64::from(field(0)) + (u64::from(field(1)) << 32),
+        tick: field(2),
+        entry: field(3),
+        first: field(4),
+        kind: field(5),
+        row: field(6),
+    }
+}
+
+fn set_record(states: &mut [u8], record: usize, state: &State) {
+    let mut set = |index: usize, value: u32| set_word(states, 7 * record + index, value);
+    set(0, state.cycle as u32);
+    set(1, (state.cycle >> 32) as u32);
+    set(2, state.tick);
+    set(3, state.entry);
+    set(4, state.first);
+    set(5, state.kind);
+    set(6, state.row);
+}

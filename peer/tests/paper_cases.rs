@@ -1,0 +1,269 @@
+//! The cases of the plan paper, for this implementation and its naive twin.
+
+use peer::{build, check, naive, report, start, step, step_all, Answer, Plan, State};
+
+fn case_a() -> Plan {
+    Plan {
+        cycle: 10,
+        precision: 0,
+        cores: vec![[0, 1, 2]],
+        vcpus: vec![[0]],
+        tasks: vec![[0, 1, 10, 3, 8]],
+        windows: vec![[0, 0, 10]],
+        pieces: vec![[0, 0, 2, 4]],
+        ..Plan::default()
+    }
+}
+
+fn case_b() -> Plan {
+    Plan {
+        cycle: 20,
+        precision: 1,
+        cores: vec![[0, 1, 2], [1, 1, 2]],
+        vcpus: vec![[0], [1]],
+        tasks: vec![[0, 3, 20, 3, 20], [1, 3, 20, 3, 20]],
+        windows: vec![[0, 0, 20], [1, 0, 20]],
+        pieces: vec![[0, 0, 2, 4], [1, 0, 10, 4]],
+        links: vec![[0, 1, 1]],
+        streams: vec![[0, 1, 13, 1, 2]],
+        frames: vec![[0, 0, 0, 0, 6]],
+        buffers: vec![],
+    }
+}
+
+#[track_caller]
+fn expect(image: &[u8], number: u32, table: u32, row: u32) {
+    let answer = Answer::at(number, table, row);
+    assert_eq!(check(image), answer);
+    assert_eq!(naive::check(image), answer);
+    if !answer.is_accepted() {
+        assert_eq!(report(image), format!("{answer}\n"));
+    }
+}
+
+#[track_caller]
+fn changed(mut plan: Plan, change: impl Fn(&mut Plan), number: u32, table: u32, row: u32) {
+    change(&mut plan);
+    expect(&plan.encode(), number, table, row);
+}
+
+#[test]
+fn a_prints_whole() {
+    let image = case_a().encode();
+    assert_eq!(image.len(), 148);
+    assert_eq!(image[144..], [64, 0, 0, 0]);
+    expect(&image, 0, 0, 0);
+    let text = "0 0 0\n0 0 1 0\n0 2 3 0\n0 3 4 0\n0 6 2 0\n";
+    assert_eq!(report(&image), text);
+}
+
+#[test]
+fn a_changed() {
+    changed(case_a(), |plan| plan.tasks[0][4] = 6, 0, 0, 0);
+    changed(case_a(), |plan| plan.tasks[0][4] = 5, 10, 5, 0);
+    changed(case_a(), |plan| plan.pieces[0][3] = 3, 13, 3, 0);
+    changed(case_a(), |plan| plan.pieces[0][2] = 1, 11, 5, 0);
+    changed(case_a(), |plan| plan.tasks[0][1] = 3, 0, 0, 0);
+    changed(case_a(), |plan| plan.tasks[0][1] = 2, 9, 3, 0);
+    let both = |plan: &mut Plan| {
+        plan.tasks[0][1] = 2;
+        plan.pieces[0][2] = 1;
+    };
+    changed(case_a(), both, 9, 3, 0);
+    changed(case_a(), |plan| plan.windows[0][2] = 2, 7, 4, 0);
+    changed(case_a(), |plan| plan.windows[0][2] = 3, 11, 5, 0);
+    changed(case_a(), |plan| plan.tasks[0][2] = 3, 6, 3, 0);
+    changed(case_a(), |plan| plan.windows[0][0] = 1, 5, 4, 0);
+    changed(case_a(), |plan| plan.pieces[0][1] = 1, 10, 5, 0);
+    changed(case_a(), |plan| plan.cycle = 0, 4, 0, 0);
+}
+
+#[test]
+fn a_as_bytes() {
+    let mut image = case_a().encode();
+    image[144] = 63;
+    expect(&image, 2, 0, 0);
+    expect(&[], 1, 0, 0);
+}
+
+#[test]
+fn b_and_its_refusals() {
+    changed(case_b(), |_| (), 0, 0, 0);
+    changed(case_b(), |plan| plan.streams[0][2] = 12, 21, 7, 0);
+    changed(case_b(), |plan| plan.pieces[1][2] = 9, 20, 7, 0);
+}
+
+#[test]
+fn b_has_three_lanes() {
+    let text = report(&case_b().encode());
+    let lines: Vec<&str> = text.lines().collect();
+    let sender = ["0 0 1 0", "0 2 3 0", "0 3 4 0", "0 6 2 0"];
+    let receiver = ["1 0 1 1", "1 2 2 1", "1 10 3 1", "1 11 4 1", "1 14 2 1"];
+    let link = ["2 0 0 0", "2 6 5 0", "2 8 0 0"];
+    assert_eq!(lines[0], "0 0 0");
+    assert_eq!(lines[1..5], sender);
+    assert_eq!(lines[5..10], receiver);
+    assert_eq!(lines[10..], link);
+}
+
+/// The table of case A's only lane.
+fn table_of_a() -> Vec<u32> {
+    let mut words = vec![0; 14];
+    let answer = build(&case_a().encode(), 0, &mut words);
+    assert_eq!(answer, Answer::ACCEPTED);
+    words
+}
+
+#[test]
+fn a_builds_where_the_words_suffice() {
+    let image = case_a().encode();
+    let table = [10, 4, 0, 1, 0, 2, 3, 0, 3, 4, 0, 6, 2, 0];
+    assert_eq!(table_of_a(), table);
+    let mut words = [7; 20];
+    assert_eq!(build(&image, 0, &mut words), Answer::ACCEPTED);
+    assert_eq!(words[..14], table);
+    assert_eq!(words[14..], [7; 6]);
+    let mut words = [7; 13];
+    assert_eq!(build(&image, 0, &mut words), Answer::plain(26));
+    assert_eq!(words, [7; 13]);
+    let mut words = [7; 20];
+    assert_eq!(build(&image, 1, &mut words), Answer::plain(25));
+    assert_eq!(build(&image, u32::MAX, &mut words), Answer::plain(25));
+    assert_eq!(build(&image[1..], 0, &mut words), Answer::plain(2));
+    assert_eq!(words, [7; 20]);
+}
+
+fn at(cycle: u64, tick: u32, entry: u32) -> State {
+    State {
+        tick,
+        entry,
+        kind: 77,
+        row: 78,
+        ..start(cycle, 0)
+    }
+}
+
+#[track_caller]
+fn expect_step(words: &[u32], from: State, number: u32, to: State) {
+    for stepper in [step, naive::step] {
+        let mut state = from;
+        assert_eq!(stepper(words, &mut state), number);
+        assert_eq!(state, to);
+    }
+}
+
+#[test]
+fn a_steps_into_the_next_cycle() {
+    let shown = State {
+        kind: 2,
+        row: 0,
+        ..at(6, 0, 0)
+    };
+    expect_step(&table_of_a(), at(5, 9, 3), 0, shown);
+}
+
+#[test]
+fn the_calendar_ends() {
+    let last = at(u64::MAX, 9, 3);
+    expect_step(&table_of_a(), last, 28, last);
+    let before = at(u64::MAX, 8, 3);
+    let shown = State {
+        kind: 2,
+        row: 0,
+        ..at(u64::MAX, 9, 3)
+    };
+    expect_step(&table_of_a(), before, 0, shown);
+}
+
+#[test]
+fn states_that_do_not_fit() {
+    let words = table_of_a();
+    for state in [
+        at(0, 10, 3),
+        at(0, 9, 4),
+        at(0, 9, u32::MAX),
+        at(0, u32::MAX, 3),
+        at(0, 1, 1),
+        at(0, 6, 2),
+        at(u64::MAX, 9, 2),
+        State {
+            first: 1,
+            ..at(0, 0, 0)
+        },
+        State {
+            first: u32::MAX,
+            ..at(0, 0, 0)
+        },
+    ] {
+        expect_step(&words, state, 27, state);
+    }
+    expect_step(&words[..13], at(0, 0, 0), 27, at(0, 0, 0));
+    expect_step(&words[..1], at(0, 0, 0), 27, at(0, 0, 0));
+    expect_step(&[], at(0, 0, 0), 27, at(0, 0, 0));
+    expect_step(&[10, u32::MAX], at(0, 0, 0), 27, at(0, 0, 0));
+    expect_step(&[0, 1, 0, 0, 0], at(0, 0, 0), 27, at(0, 0, 0));
+}
+
+#[test]
+fn one_refusal_stops_all() {
+    let words = table_of_a();
+    let (good, ended, stale) = (at(1, 0, 0), at(u64::MAX, 9, 3), at(0, 5, 0));
+    for stepper in [step_all, naive::step_all] {
+        assert_eq!(stepper(&words, &mut []), 0);
+        for (row, number) in [
+            (vec![good, ended, stale], 28),
+            (vec![good, stale, ended], 27),
+            (vec![good, good, ended], 28),
+        ] {
+            let mut states = row.clone();
+            assert_eq!(stepper(&words, &mut states), number);
+            assert_eq!(states, row);
+        }
+        let mut states = [good, good];
+        assert_eq!(stepper(&words, &mut states), 0);
+        assert_eq!(
+            states,
+            [State {
+                kind: 1,
+                row: 0,
+                ..at(1, 1, 0)
+            }; 2]
+        );
+    }
+}
+
+#[test]
+fn a_whole_cycle_of_a() {
+    let words = table_of_a();
+    let mut state = start(0, 0);
+    let mut kinds = Vec::new();
+    for _ in 0..20 {
+        assert_eq!(step(&words, &mut state), 0);
+        kinds.push(state.kind);
+    }
+    assert_eq!(kinds[..10], [1, 1, 3, 4, 4, 4, 2, 2, 2, 2]);
+    assert_eq!(kinds[10..], kinds[..10]);
+    assert_eq!((state.cycle, state.tick, state.entry), (2, 0, 0));
+}
+
+/// Many jobs without pieces take no time of their own.
+#[test]
+fn a_million_jobs_without_a_piece() {
+    let mut plan = case_a();
+    plan.cycle = 1_000_000;
+    plan.cores[0] = [0, 0, 0];
+    plan.pieces = vec![[255, 999_999, 999_999, 1]];
+    plan.windows = vec![[0, 0, 1_000_000]];
+    plan.tasks = vec![[0, 1, 1, 1, 1]; 256];
+    for _ in 0..1_000 {
+        assert_eq!(check(&plan.encode()), Answer::at(13, 3, 0));
+    }
+}
+
+/// Misreadings of the paper's list.
+#[test]
+fn no_piece_spans_adjoining_windows() {
+    let mut plan = case_a();
+    plan.windows = vec![[0, 0, 5], [0, 5, 5]];
+    expect(&plan.encode(), 11, 5, 0);
+}
