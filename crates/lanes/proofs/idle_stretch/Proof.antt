@@ -1,0 +1,11 @@
+use Rattle.lanes.proofs.idle_stretch.Statement.{statement}
+use Rattle.lanes.proofs.idle_stretch.Tie as tie
+use Rattle.lanes.proofs.idle_stretch.Reads as reads
+use Rattle.lanes.proofs.idle_stretch.Lts as lts
+
+-- src/lib.rt:136:1
+returns : tie.Need-returns
+returns c = ?
+
+pub idle-stretch-spec : {M : Type 1} → statement M
+idle-stretch-spec = tie.close (tie.spec returns)

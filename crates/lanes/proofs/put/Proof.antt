@@ -1,0 +1,60 @@
+use borrow.Author.Needs.{needs}
+use Rattle.lanes.proofs.put.Statement.{statement}
+use Rattle.lanes.proofs.put.Tie as tie
+use Rattle.lanes.proofs.put.Reads as reads
+use Rattle.lanes.proofs.put.Lts as lts
+
+-- src/lib.rt:337:5
+mul-words : tie.Need-mul-words
+mul-words c = search needs
+
+-- src/lib.rt:337:5
+slice-write-words : tie.Need-slice-write-words
+slice-write-words c = search needs
+
+-- src/lib.rt:338:11
+add-words : tie.Need-add-words
+add-words c = search needs
+
+-- src/lib.rt:338:5
+mul-words-2 : tie.Need-mul-words-2
+mul-words-2 c = search needs
+
+-- src/lib.rt:338:5
+slice-write-words-2 : tie.Need-slice-write-words-2
+slice-write-words-2 c = ?
+
+-- src/lib.rt:339:11
+add-words-2 : tie.Need-add-words-2
+add-words-2 c = search needs
+
+-- src/lib.rt:339:5
+mul-words-3 : tie.Need-mul-words-3
+mul-words-3 c = search needs
+
+-- src/lib.rt:339:5
+slice-write-words-3 : tie.Need-slice-write-words-3
+slice-write-words-3 c = ?
+
+-- src/lib.rt:333:1
+same-length : tie.Need-same-length
+same-length c = search needs
+
+-- src/lib.rt:333:1
+returns : tie.Need-returns
+returns c = ?
+
+pub put-spec : {M : Type 1} → statement M
+put-spec =
+    tie.close
+    (tie.spec
+    mul-words
+    slice-write-words
+    add-words
+    mul-words-2
+    slice-write-words-2
+    add-words-2
+    mul-words-3
+    slice-write-words-3
+    same-length
+    returns)

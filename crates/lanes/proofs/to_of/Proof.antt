@@ -1,0 +1,58 @@
+use borrow.Author.Needs.{needs}
+use Rattle.lanes.proofs.to_of.Statement.{statement}
+use Rattle.lanes.proofs.to_of.Tie as tie
+use Rattle.lanes.proofs.to_of.Reads as reads
+use Rattle.lanes.proofs.to_of.Lts as lts
+use Rattle.terms.proofs.frame_end.Reads as frame-end-reads
+use Rattle.terms.proofs.piece_end.Reads as piece-end-reads
+use Rattle.terms.proofs.window_end.Reads as window-end-reads
+
+-- src/lib.rt:77:28
+enum-told : tie.Need-enum-told
+enum-told c = search needs
+
+-- src/lib.rt:77:28
+piece-end-requires : tie.Need-piece-end-requires
+piece-end-requires c κs = ?
+
+-- src/lib.rt:78:29
+enum-told-2 : tie.Need-enum-told-2
+enum-told-2 c = search needs
+
+-- src/lib.rt:78:29
+window-end-requires : tie.Need-window-end-requires
+window-end-requires c κs = ?
+
+-- src/lib.rt:79:28
+enum-told-3 : tie.Need-enum-told-3
+enum-told-3 c = search needs
+
+-- src/lib.rt:79:28
+frame-end-requires : tie.Need-frame-end-requires
+frame-end-requires c κs = ?
+
+-- src/lib.rt:72:1
+returns : tie.Need-returns
+returns c = ?
+
+-- src/lib.rt:72:1
+returns-2 : tie.Need-returns-2
+returns-2 c = ?
+
+-- src/lib.rt:72:1
+returns-3 : tie.Need-returns-3
+returns-3 c = ?
+
+pub to-of-spec : {M : Type 1} → statement M
+to-of-spec =
+    tie.close
+    (tie.spec
+    enum-told
+    piece-end-requires
+    enum-told-2
+    window-end-requires
+    enum-told-3
+    frame-end-requires
+    returns
+    returns-2
+    returns-3)
