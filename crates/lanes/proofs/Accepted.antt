@@ -8,9 +8,9 @@ use native.Mathlib.Omega.{arith}
 use lib.ListN.{length}
 use Rattle.plan.specs.declared.Table.{Table}
 use Rattle.plan.specs.declared.Table.the-variants.{Cores, Vcpus, Tasks, Windows, Pieces, Links, Streams, Frames, Buffers}
-use Rattle.plan.specs.Image.{tables, shape, trailerBytes, trailerAt, tableEnd, rows, cycleTicks, precision, piece, task, stream, frame}
+use Rattle.plan.specs.Image.{tables, shape, trailerBytes, trailerAt, tableEnd, rows, cycleTicks, precision, piece, task, window, stream, frame}
 use Rattle.plan.specs.Search.{Interval}
-use Rattle.plan.specs.Questions.{answerOf, accepted, jobs, streamPeriod, pieceEnd, frameEnd, switchTicks, windowInterval, pieceInterval, frameInterval}
+use Rattle.plan.specs.Questions.{answerOf, accepted, jobs, streamPeriod, pieceEnd, windowEnd, frameEnd, switchTicks, charge, windowInterval, pieceInterval, frameInterval}
 use Rattle.plan.specs.Reading as R
 use Rattle.plan.specs.Reading.{Meaning, AllHold, Holds, Laid, Apart, meanings, imageMeanings, planMeanings, whole, eachTable}
 use Rattle.plan.specs.Held.{InImage, Sound}
@@ -69,11 +69,11 @@ module _ (s : List ℕ) where
       let l = lies 0 tables (h .1 .1 .0 0 (omega arith) .1) in let c = h .1 .1 .1 .0 0 (omega arith) in
       record {
         inside =
-          record {
-            trailer = h .0 0 (omega arith) .0;
-            counts = λ t. pick Lies l t .0;
-            ends = λ t. omega (arith, pick Lies l t .1);
-          };
+            record {
+              trailer = h .0 0 (omega arith) .0;
+              counts = λ t. pick Lies l t .0;
+              ends = λ t. omega (arith, pick Lies l t .1);
+            };
         cycle = c .0;
         cycle-most = c .1;
         clocks = c .2;
@@ -112,3 +112,28 @@ module _ (s : List ℕ) (f : Facts s) where
   apart Piece i l q k e = f .pieceApart i l q k e
   apart Window i l q k e = f .windowApart i l q k e
   apart Frame i l q k e = f .frameApart i l q k e
+
+-- ---- sums of ticks are small
+
+module _ (s : List ℕ) (e : answerOf s ≡ accepted) where
+  pub cycle-small : cycleTicks s ≤ 1000000
+  cycle-small = sound s e .cycle-most
+
+  -- a piece's end, and the tick at which its work begins
+  pub piece-small : (i : ℕ) → i < rows s Pieces → piece s i .start + piece s i .length ≤ 1000000
+  unfolding pieceEnd
+  piece-small i l = omega (arith, piece-end s (facts s e) i l, cycle-small)
+
+  pub work-small : (i : ℕ) → i < rows s Pieces → piece s i .start + switchTicks s (piece s i .task) ≤ 1000000
+  work-small i l = omega (arith, piece-small i l, facts s e .pieceFits i l .1)
+
+  -- a window's end, and the end of its first ticks
+  pub window-small : (w : ℕ) → w < rows s Windows → window s w .start + window s w .length ≤ 1000000
+  unfolding windowEnd
+  window-small w l = omega (arith, facts s e .windowFits w l .1, cycle-small)
+
+  pub charged-small : (w : ℕ) → w < rows s Windows → window s w .start + charge s w ≤ 1000000
+  charged-small w l = omega (arith, window-small w l, facts s e .windowFits w l .0)
+
+  pub frame-small : (i : ℕ) → i < rows s Frames → frameEnd s i ≤ 1000000
+  frame-small i l = omega (arith, frame-end s (facts s e) i l, cycle-small)

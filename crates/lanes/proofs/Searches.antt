@@ -113,7 +113,7 @@ module _ (s : List ℕ) (o : Occupant) (c : ℕ) where
           after = n .ends-later;
           within = ends s f o k l;
           only = λ x lo hi. let h : Covers x k = record { place = n .place; low = omega arith; high = hi } in
-            first-is (covers s o c x) (rows s (tableFor o)) k l (in-covers h) (λ j q d. one-covers f l q (covers-in x j d) h);
+              first-is (covers s o c x) (rows s (tableFor o)) k l (in-covers h) (λ j q d. one-covers f l q (covers-in x j d) h);
         }
 
     pub free : (next : ℕ) → t < next → next ≤ cycleTicks s → Passed (rows s (tableFor o)) next → FreeFrom s o c t next

@@ -78,10 +78,10 @@ module _ (s : List ℕ) (c t : ℕ) where
       record {
         after = omega (arith, h .after, g .after);
         ahead =
-          record {
-            within = omega (arith, h .within);
-            shows = λ x lo hi. core-window x w (piece-at x (g .none x lo (omega arith))) (window-at x (h .only x lo (omega arith)));
-          };
+            record {
+              within = omega (arith, h .within);
+              shows = λ x lo hi. core-window x w (piece-at x (g .none x lo (omega arith))) (window-at x (h .only x lo (omega arith)));
+            };
       }
 
   pub core-idles : (free next : ℕ) → FreeFrom s Piece c t next → FreeFrom s Window c t free → Shows (onCore s c) t (cycleTicks s) (idleStretch (min free next))
@@ -90,11 +90,11 @@ module _ (s : List ℕ) (c t : ℕ) where
       record {
         after = omega (arith, h .after, g .after);
         ahead =
-          record {
-            within = omega (arith, h .within);
-            shows = λ x lo hi.
-              core-idle x (piece-at x (g .none x lo (omega arith))) (window-at x (h .none x lo (omega arith))) ∙ sym (idle-shows (min free next) x);
-          };
+            record {
+              within = omega (arith, h .within);
+              shows = λ x lo hi.
+                  core-idle x (piece-at x (g .none x lo (omega arith))) (window-at x (h .none x lo (omega arith))) ∙ sym (idle-shows (min free next) x);
+            };
       }
 
   pub frame-sends : (i : ℕ) → TakenFrom s Frame c t i → Shows (onLink s c) t (cycleTicks s) (frameStretch s i)

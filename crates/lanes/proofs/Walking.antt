@@ -114,13 +114,13 @@ module _ (s : List ℕ) (lane : ℕ) where
       record {
         from = refl;
         walking =
-          record {
-            after = k .after;
-            within = omega (arith, k .inside, h .ahead .within);
-            shows = k .shows;
-            begins = refl;
-            ahead = further (omega arith) (h .ahead);
-          };
+            record {
+              after = k .after;
+              within = omega (arith, k .inside, h .ahead .within);
+              shows = k .shows;
+              begins = refl;
+              ahead = further (omega arith) (h .ahead);
+            };
       }
 
   pub steps : (w : Walk) (r : Stretch) (g : Segment) → Walking s lane w → Shows (shownAt s lane) (w .until) (cycleTicks s) r → g ≡ segmentOf r (w .until)
@@ -139,11 +139,11 @@ module _ (s : List ℕ) (lane : ℕ) where
       record {
         from = refl;
         walking =
-          record {
-            after = k .after;
-            within = omega (arith, k .inside, h .ahead .within);
-            shows = k .shows;
-            begins = sym (begins-by (w .until) (omega (arith, v .after)) (k .shows (w .until) (omega arith) (k .after)) (last-shown w v));
-            ahead = further (omega (arith, k .after)) (h .ahead);
-          };
+            record {
+              after = k .after;
+              within = omega (arith, k .inside, h .ahead .within);
+              shows = k .shows;
+              begins = sym (begins-by (w .until) (omega (arith, v .after)) (k .shows (w .until) (omega arith) (k .after)) (last-shown w v));
+              ahead = further (omega (arith, k .after)) (h .ahead);
+            };
       }

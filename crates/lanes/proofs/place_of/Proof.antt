@@ -1,3 +1,9 @@
+use Prim.Native.Nat.{_<_}
+use mathlib.Core.Path.{_≡_, refl, sym, ap, subst, _∙_}
+use Rattle.lanes.specs.declared.Occupant.{Occupant}
+use Rattle.plan.specs.declared.Frame.{Frame}
+use Rattle.plan.specs.Image.{rows}
+use Rattle.lanes.specs.Taken.{tableFor, placeOf}
 use borrow.Author.Needs.{needs}
 use Rattle.lanes.proofs.place_of.Statement.{statement}
 use Rattle.lanes.proofs.place_of.Tie as tie
@@ -13,7 +19,8 @@ enum-told c = search needs
 
 -- src/lib.rt:53:28
 piece-core-requires : tie.Need-piece-core-requires
-piece-core-requires c κs = ?
+unfolding tableFor
+piece-core-requires c κs = let p = c .before .before .before .pre in let a = c .before .before .before .args in (p .0, subst (λ (o : Occupant). a .row < rows (a .image .now) (tableFor o)) (c .enum-told .given .1) (p .1))
 
 -- src/lib.rt:54:29
 enum-told-2 : tie.Need-enum-told-2
@@ -21,7 +28,8 @@ enum-told-2 c = search needs
 
 -- src/lib.rt:54:29
 window-core-requires : tie.Need-window-core-requires
-window-core-requires c κs = ?
+unfolding tableFor
+window-core-requires c κs = let p = c .before .before .before .pre in let a = c .before .before .before .args in (p .0, subst (λ (o : Occupant). a .row < rows (a .image .now) (tableFor o)) (c .enum-told2 .given .1) (p .1))
 
 -- src/lib.rt:55:28
 enum-told-3 : tie.Need-enum-told-3
@@ -29,19 +37,23 @@ enum-told-3 c = search needs
 
 -- src/lib.rt:55:28
 frame-at-requires : tie.Need-frame-at-requires
-frame-at-requires c κs = ?
+unfolding tableFor
+frame-at-requires c κs = let p = c .before .before .before .pre in let a = c .before .before .before .args in (p .0 .inside, subst (λ (o : Occupant). a .row < rows (a .image .now) (tableFor o)) (c .enum-told3 .given .1) (p .1))
 
 -- src/lib.rt:48:1
 returns : tie.Need-returns
-returns c = ?
+unfolding placeOf
+returns c = let a = c .before .before .before .before .args in c .piece-core .ensures ∙ sym (ap (λ (o : Occupant). placeOf (a .image .now) o (a .row)) (c .before .enum-told .given .1))
 
 -- src/lib.rt:48:1
 returns-2 : tie.Need-returns-2
-returns-2 c = ?
+unfolding placeOf
+returns-2 c = let a = c .before .before .before .before .args in c .window-core .ensures ∙ sym (ap (λ (o : Occupant). placeOf (a .image .now) o (a .row)) (c .before .enum-told2 .given .1))
 
 -- src/lib.rt:48:1
 returns-3 : tie.Need-returns-3
-returns-3 c = ?
+unfolding placeOf
+returns-3 c = let a = c .before .before .before .before .args in ap (λ (x : Frame). x .link) (c .frame-at .ensures) ∙ sym (ap (λ (o : Occupant). placeOf (a .image .now) o (a .row)) (c .before .enum-told3 .given .1))
 
 pub place-of-spec : {M : Type 1} → statement M
 place-of-spec =

@@ -1,3 +1,9 @@
+use Prim.Native.Nat.{suc, _+_}
+use mathlib.Core.Path.{_≡_, refl, sym, ap, subst, _∙_}
+use mathlib.Core.List.{_∷_, []}
+use native.Mathlib.Omega.{arith}
+use lib.ListN.{length-set}
+use Rattle.lanes.proofs.Writing.{put-sets}
 use borrow.Author.Needs.{needs}
 use Rattle.lanes.proofs.put.Statement.{statement}
 use Rattle.lanes.proofs.put.Tie as tie
@@ -22,7 +28,7 @@ mul-words-2 c = search needs
 
 -- src/lib.rt:338:5
 slice-write-words-2 : tie.Need-slice-write-words-2
-slice-write-words-2 c = ?
+slice-write-words-2 c = simp length-set (omega arith)
 
 -- src/lib.rt:339:11
 add-words-2 : tie.Need-add-words-2
@@ -34,7 +40,7 @@ mul-words-3 c = search needs
 
 -- src/lib.rt:339:5
 slice-write-words-3 : tie.Need-slice-write-words-3
-slice-write-words-3 c = ?
+slice-write-words-3 c = simp length-set (omega arith)
 
 -- src/lib.rt:333:1
 same-length : tie.Need-same-length
@@ -42,7 +48,7 @@ same-length c = search needs
 
 -- src/lib.rt:333:1
 returns : tie.Need-returns
-returns c = ?
+returns c = let a = c .args in let e : a .at + 1 ≡ suc (a .at) = omega arith in let d : a .at + 2 ≡ suc (suc (a .at)) = omega arith in rw (put-sets (a .words .now) (a .first ∷ a .kind ∷ a .row ∷ []) (a .at) (omega (arith, c .pre)), e, d) refl
 
 pub put-spec : {M : Type 1} → statement M
 put-spec =

@@ -1,3 +1,6 @@
+use mathlib.Core.Path.{_≡_, refl, sym, ap, subst, _∙_}
+use borrow.Author.Tests.{lt-ltb, le-ltb}
+use Rattle.lanes.specs.Walks.{segmentOf}
 use borrow.Author.Needs.{needs}
 use Rattle.lanes.proofs.segment_at.Statement.{statement}
 use Rattle.lanes.proofs.segment_at.Tie as tie
@@ -11,11 +14,13 @@ least-requires c κs = search needs
 
 -- src/lib.rt:250:1
 returns : tie.Need-returns
-returns c = ?
+unfolding segmentOf
+returns c = rw (lt-ltb _ _ (c .before .if1 .taken), c .least .ensures) refl
 
 -- src/lib.rt:250:1
 returns-2 : tie.Need-returns-2
-returns-2 c = ?
+unfolding segmentOf
+returns-2 c = rw (le-ltb _ _ (c .if1 .left)) refl
 
 pub segment-at-spec : {M : Type 1} → statement M
 segment-at-spec = tie.close (tie.spec least-requires returns returns-2)

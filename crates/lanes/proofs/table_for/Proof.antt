@@ -1,3 +1,5 @@
+use mathlib.Core.Path.{_≡_, refl, sym, ap, subst, _∙_}
+use Rattle.lanes.specs.Taken.{tableFor}
 use borrow.Author.Needs.{needs}
 use Rattle.lanes.proofs.table_for.Statement.{statement}
 use Rattle.lanes.proofs.table_for.Tie as tie
@@ -18,15 +20,18 @@ enum-told-3 c = search needs
 
 -- src/lib.rt:37:1
 returns : tie.Need-returns
-returns c = ?
+unfolding tableFor
+returns c = sym (ap tableFor (c .enum-told .given .1))
 
 -- src/lib.rt:37:1
 returns-2 : tie.Need-returns-2
-returns-2 c = ?
+unfolding tableFor
+returns-2 c = sym (ap tableFor (c .enum-told2 .given .1))
 
 -- src/lib.rt:37:1
 returns-3 : tie.Need-returns-3
-returns-3 c = ?
+unfolding tableFor
+returns-3 c = sym (ap tableFor (c .enum-told3 .given .1))
 
 pub table-for-spec : {M : Type 1} → statement M
 table-for-spec = tie.close (tie.spec enum-told enum-told-2 enum-told-3 returns returns-2 returns-3)

@@ -1,3 +1,8 @@
+use Prim.Native.Nat.{_<_}
+use mathlib.Core.Path.{_≡_, refl, sym, ap, subst, _∙_}
+use Rattle.lanes.specs.declared.Occupant.{Occupant}
+use Rattle.plan.specs.Image.{rows}
+use Rattle.lanes.specs.Taken.{tableFor, toOf}
 use borrow.Author.Needs.{needs}
 use Rattle.lanes.proofs.to_of.Statement.{statement}
 use Rattle.lanes.proofs.to_of.Tie as tie
@@ -13,7 +18,8 @@ enum-told c = search needs
 
 -- src/lib.rt:77:28
 piece-end-requires : tie.Need-piece-end-requires
-piece-end-requires c κs = ?
+unfolding tableFor
+piece-end-requires c κs = let p = c .before .before .before .pre in let a = c .before .before .before .args in (p .0, subst (λ (o : Occupant). a .row < rows (a .image .now) (tableFor o)) (c .enum-told .given .1) (p .1))
 
 -- src/lib.rt:78:29
 enum-told-2 : tie.Need-enum-told-2
@@ -21,7 +27,8 @@ enum-told-2 c = search needs
 
 -- src/lib.rt:78:29
 window-end-requires : tie.Need-window-end-requires
-window-end-requires c κs = ?
+unfolding tableFor
+window-end-requires c κs = let p = c .before .before .before .pre in let a = c .before .before .before .args in (p .0, subst (λ (o : Occupant). a .row < rows (a .image .now) (tableFor o)) (c .enum-told2 .given .1) (p .1))
 
 -- src/lib.rt:79:28
 enum-told-3 : tie.Need-enum-told-3
@@ -29,19 +36,23 @@ enum-told-3 c = search needs
 
 -- src/lib.rt:79:28
 frame-end-requires : tie.Need-frame-end-requires
-frame-end-requires c κs = ?
+unfolding tableFor
+frame-end-requires c κs = let p = c .before .before .before .pre in let a = c .before .before .before .args in (p .0, subst (λ (o : Occupant). a .row < rows (a .image .now) (tableFor o)) (c .enum-told3 .given .1) (p .1))
 
 -- src/lib.rt:72:1
 returns : tie.Need-returns
-returns c = ?
+unfolding toOf
+returns c = let a = c .before .before .before .before .args in c .piece-end .ensures ∙ sym (ap (λ (o : Occupant). toOf (a .image .now) o (a .row)) (c .before .enum-told .given .1))
 
 -- src/lib.rt:72:1
 returns-2 : tie.Need-returns-2
-returns-2 c = ?
+unfolding toOf
+returns-2 c = let a = c .before .before .before .before .args in c .window-end .ensures ∙ sym (ap (λ (o : Occupant). toOf (a .image .now) o (a .row)) (c .before .enum-told2 .given .1))
 
 -- src/lib.rt:72:1
 returns-3 : tie.Need-returns-3
-returns-3 c = ?
+unfolding toOf
+returns-3 c = let a = c .before .before .before .before .args in c .frame-end .ensures ∙ sym (ap (λ (o : Occupant). toOf (a .image .now) o (a .row)) (c .before .enum-told3 .given .1))
 
 pub to-of-spec : {M : Type 1} → statement M
 to-of-spec =

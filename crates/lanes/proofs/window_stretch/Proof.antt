@@ -1,3 +1,9 @@
+use mathlib.Core.Path.{_≡_, refl, sym, ap, subst, _∙_}
+use native.Mathlib.Omega.{arith}
+use Rattle.plan.specs.declared.Window.{Window}
+use Rattle.plan.specs.Questions.{windowEnd}
+use Rattle.lanes.specs.Walks.{windowStretch}
+use Rattle.lanes.proofs.Accepted.{sound, window-small, charged-small}
 use borrow.Author.Needs.{needs}
 use Rattle.lanes.proofs.window_stretch.Statement.{statement}
 use Rattle.lanes.proofs.window_stretch.Tie as tie
@@ -9,19 +15,19 @@ use Rattle.terms.proofs.charge_of.Reads as charge-of-reads
 
 -- src/lib.rt:168:9
 window-at-requires : tie.Need-window-at-requires
-window-at-requires c κs = ?
+window-at-requires c κs = let p = c .before .pre in (sound _ (p .0) .inside, p .1)
 
 -- src/lib.rt:173:25
 charge-of-requires : tie.Need-charge-of-requires
-charge-of-requires c κs = ?
+charge-of-requires c κs = let p = c .before .before .pre in (sound _ (p .0), p .1)
 
 -- src/lib.rt:173:15
 add-t6 : tie.Need-add-t6
-add-t6 c = ?
+add-t6 c = let f = c .before .before .window-at in let p = c .before .before .before .before .pre in let a = c .before .before .before .before .args in let s = a .image .now in let x = ap (λ (q : Window). q .start) (f .ensures) in let y = c .before .charge-of .ensures in omega (arith, x, y, charged-small s (p .0) (a .window) (p .1))
 
 -- src/lib.rt:174:22
 add-least : tie.Need-add-least
-add-least c = ?
+add-least c = let f = c .before .before .before .window-at in let p = c .before .before .before .before .before .pre in let a = c .before .before .before .before .before .args in let s = a .image .now in let x = ap (λ (q : Window). q .start) (f .ensures) in let y = ap (λ (q : Window). q .length) (f .ensures) in omega (arith, x, y, window-small s (p .0) (a .window) (p .1))
 
 -- src/lib.rt:174:16
 least-requires : tie.Need-least-requires
@@ -29,7 +35,8 @@ least-requires c κs = search needs
 
 -- src/lib.rt:164:1
 returns : tie.Need-returns
-returns c = ?
+unfolding windowStretch windowEnd
+returns c = rw (c .least .ensures, c .before .before .before .charge-of .ensures, c .before .before .before .before .window-at .ensures) refl
 
 pub window-stretch-spec : {M : Type 1} → statement M
 window-stretch-spec =
