@@ -54,11 +54,16 @@ module _ (s : List ℕ) (o : Occupant) (c : ℕ) where
 
   module _ (t : ℕ) where
     -- of the place's rows below k, each has ended by tick t or begins no sooner than `next`
-    abbrev pub Passed : ℕ → ℕ → Type 0
+    abbrev Passed : ℕ → ℕ → Type 0
     Passed k next = (i : ℕ) → i < k → placeOf s o i ≡ c → (toOf s o i ≤ t) ⊎ (next ≤ fromOf s o i)
 
-    pub passed-none : (next : ℕ) → Passed 0 next
-    passed-none next i l = absurd (not-suc-le-zero l)
+    pub record Seen (k next : ℕ) : Type 0 where
+      pub after : t < next
+      pub within : next ≤ cycleTicks s
+      passed : Passed k next
+
+    pub seen-none : t < cycleTicks s → Seen 0 (cycleTicks s)
+    seen-none l = record { after = l; within = omega arith; passed = λ i k. absurd (not-suc-le-zero k) }
 
     one-more : (k next : ℕ) → Passed k next → (placeOf s o k ≡ c → (toOf s o k ≤ t) ⊎ (next ≤ fromOf s o k)) → Passed (k + 1) next
     one-more k next h e i l p = let m : i < suc k = omega arith in go (eq-or-lt-of-le (le-of-suc-le-suc m))
@@ -85,23 +90,30 @@ module _ (s : List ℕ) (o : Occupant) (c : ℕ) where
         rw (eq-eqb (placeOf s o k) c (h .place), lt-ltb (fromOf s o k) next (h .before), lt-ltb t (toOf s o k) (h .ends-later)) refl
 
     -- a turn of the loop: row k is not nearer, or it is and becomes the next
-    pub passed-over : (k next : ℕ) → Passed k next → nearerOf s o c t next k ≡ false → Passed (k + 1) next
-    passed-over k next h e = one-more k next h (λ p. go p (decLt (fromOf s o k) next) (decLt t (toOf s o k)))
+    pub seen-over : (k next : ℕ) → Seen k next → nearerOf s o c t next k ≡ false → Seen (k + 1) next
+    seen-over k next h e =
+        record {
+          after = h .after;
+          within = h .within;
+          passed = one-more k next (h .passed) (λ p. go p (decLt (fromOf s o k) next) (decLt t (toOf s o k)));
+        }
       where
         go : placeOf s o k ≡ c → Dec (fromOf s o k < next) → Dec (t < toOf s o k) → (toOf s o k ≤ t) ⊎ (next ≤ fromOf s o k)
         go p (no a) d = inr (omega arith)
         go p (yes a) (no b) = inl (omega arith)
         go p (yes a) (yes b) = absurd (true≢false (sym (in-near next k (record { place = p; before = a; ends-later = b })) ∙ e))
 
-    pub passed-to : (k next : ℕ) → Passed k next → nearerOf s o c t next k ≡ true → Passed (k + 1) (fromOf s o k)
-    passed-to k next h e = one-more k (fromOf s o k) (λ i l p. go i (h i l p) (near next k e .before)) (λ p. inr (omega arith))
+    pub seen-to : (k next : ℕ) → Seen k next → nearerOf s o c t next k ≡ true → t < fromOf s o k → Seen (k + 1) (fromOf s o k)
+    seen-to k next h e l =
+        record {
+          after = l;
+          within = omega (arith, near next k e .before, h .within);
+          passed = one-more k (fromOf s o k) (λ i j p. go i (h .passed i j p) (near next k e .before)) (λ p. inr (omega arith));
+        }
       where
         go : (i : ℕ) → (toOf s o i ≤ t) ⊎ (next ≤ fromOf s o i) → fromOf s o k < next → (toOf s o i ≤ t) ⊎ (fromOf s o k ≤ fromOf s o i)
-        go i (inl a) l = inl a
-        go i (inr a) l = inr (omega arith)
-
-    pub comes-before : (k next : ℕ) → nearerOf s o c t next k ≡ true → fromOf s o k < next
-    comes-before k next e = near next k e .before
+        go i (inl a) m = inl a
+        go i (inr a) m = inr (omega arith)
 
     -- what the search gives
     pub taken : Facts s → (k next : ℕ) → k < rows s (tableFor o) → nearerOf s o c t next k ≡ true → fromOf s o k ≤ t → TakenFrom s o c t k
@@ -116,13 +128,14 @@ module _ (s : List ℕ) (o : Occupant) (c : ℕ) where
               first-is (covers s o c x) (rows s (tableFor o)) k l (in-covers h) (λ j q d. one-covers f l q (covers-in x j d) h);
         }
 
-    pub free : (next : ℕ) → t < next → next ≤ cycleTicks s → Passed (rows s (tableFor o)) next → FreeFrom s o c t next
+    pub free : (next : ℕ) → Seen (rows s (tableFor o)) next → FreeFrom s o c t next
     unfolding takenBy
-    free next a w h =
+    free next h =
         record {
-          after = a;
-          within = w;
-          none = λ x lo hi. no-row (covers s o c x) (rows s (tableFor o)) (λ i l e. let v = covers-in x i e in go x lo hi i v (h i l (v .place)));
+          after = h .after;
+          within = h .within;
+          none = λ x lo hi.
+              no-row (covers s o c x) (rows s (tableFor o)) (λ i l e. let v = covers-in x i e in go x lo hi i v (h .passed i l (v .place)));
         }
       where
         go : (x : ℕ) → t ≤ x → x < next → (i : ℕ) → Covers x i → (toOf s o i ≤ t) ⊎ (next ≤ fromOf s o i) → ⊥

@@ -1,3 +1,5 @@
+use mathlib.Core.Path.{_≡_, refl, sym, ap, subst, _∙_}
+use Rattle.lanes.specs.Taken.{nearerOf}
 use borrow.Author.Needs.{needs}
 use Rattle.lanes.proofs.nearer.Statement.{statement}
 use Rattle.lanes.proofs.nearer.Tie as tie
@@ -21,11 +23,13 @@ place-of-requires c κs = search needs
 
 -- src/lib.rt:89:9
 returns : tie.Need-returns
-returns c = ?
+unfolding nearerOf
+returns c = rw (← c .before .before .before .from-of .ensures, ← c .before .before .to-of .ensures, ← c .place-of .ensures, c .before .if1 .taken) refl
 
 -- src/lib.rt:84:1
 returns-2 : tie.Need-returns-2
-returns-2 c = ?
+unfolding nearerOf
+returns-2 c = rw (← c .before .before .from-of .ensures, ← c .before .to-of .ensures, c .if1 .left) refl
 
 pub nearer-spec : {M : Type 1} → statement M
 nearer-spec =

@@ -1,0 +1,80 @@
+use borrow.Author.Needs.{needs}
+use Rattle.lanes.proofs.core_stretch.Statement.{statement}
+use Rattle.lanes.proofs.core_stretch.Tie as tie
+use Rattle.lanes.proofs.core_stretch.Reads as reads
+use Rattle.lanes.proofs.core_stretch.Lts as lts
+use Rattle.lanes.proofs.idle_stretch.Reads as idle-stretch-reads
+use Rattle.lanes.proofs.least.Reads as least-reads
+use Rattle.lanes.proofs.nearest.Reads as nearest-reads
+use Rattle.lanes.proofs.piece_stretch.Reads as piece-stretch-reads
+use Rattle.lanes.proofs.window_stretch.Reads as window-stretch-reads
+
+-- src/lib.rt:196:11
+nearest-requires : tie.Need-nearest-requires
+nearest-requires c κs = search needs
+
+-- src/lib.rt:197:21
+enum-known-piece : tie.Need-enum-known-piece
+enum-known-piece c = search needs
+
+-- src/lib.rt:197:31
+piece-stretch-requires : tie.Need-piece-stretch-requires
+piece-stretch-requires c κs = ?
+
+-- src/lib.rt:198:20
+enum-known-next : tie.Need-enum-known-next
+enum-known-next c = search needs
+
+-- src/lib.rt:198:35
+nearest-requires-2 : tie.Need-nearest-requires-2
+nearest-requires-2 c κs = search needs
+
+-- src/lib.rt:199:25
+enum-known-window : tie.Need-enum-known-window
+enum-known-window c = search needs
+
+-- src/lib.rt:199:36
+window-stretch-requires : tie.Need-window-stretch-requires
+window-stretch-requires c κs = ?
+
+-- src/lib.rt:200:24
+enum-known-free : tie.Need-enum-known-free
+enum-known-free c = search needs
+
+-- src/lib.rt:200:46
+least-requires : tie.Need-least-requires
+least-requires c κs = search needs
+
+-- src/lib.rt:200:33
+idle-stretch-requires : tie.Need-idle-stretch-requires
+idle-stretch-requires c κs = search needs
+
+-- src/lib.rt:192:1
+returns : tie.Need-returns
+returns c = ?
+
+-- src/lib.rt:192:1
+returns-2 : tie.Need-returns-2
+returns-2 c = ?
+
+-- src/lib.rt:192:1
+returns-3 : tie.Need-returns-3
+returns-3 c = ?
+
+pub core-stretch-spec : {M : Type 1} → statement M
+core-stretch-spec =
+    tie.close
+    (tie.spec
+    nearest-requires
+    enum-known-piece
+    piece-stretch-requires
+    enum-known-next
+    nearest-requires-2
+    enum-known-window
+    window-stretch-requires
+    enum-known-free
+    least-requires
+    idle-stretch-requires
+    returns
+    returns-2
+    returns-3)

@@ -1,0 +1,48 @@
+use borrow.Author.Needs.{needs}
+use Rattle.lanes.proofs.link_stretch.Statement.{statement}
+use Rattle.lanes.proofs.link_stretch.Tie as tie
+use Rattle.lanes.proofs.link_stretch.Reads as reads
+use Rattle.lanes.proofs.link_stretch.Lts as lts
+use Rattle.lanes.proofs.frame_stretch.Reads as frame-stretch-reads
+use Rattle.lanes.proofs.idle_stretch.Reads as idle-stretch-reads
+use Rattle.lanes.proofs.nearest.Reads as nearest-reads
+
+-- src/lib.rt:210:11
+nearest-requires : tie.Need-nearest-requires
+nearest-requires c κs = search needs
+
+-- src/lib.rt:211:21
+enum-known-frame : tie.Need-enum-known-frame
+enum-known-frame c = search needs
+
+-- src/lib.rt:211:31
+frame-stretch-requires : tie.Need-frame-stretch-requires
+frame-stretch-requires c κs = ?
+
+-- src/lib.rt:212:20
+enum-known-free : tie.Need-enum-known-free
+enum-known-free c = search needs
+
+-- src/lib.rt:212:29
+idle-stretch-requires : tie.Need-idle-stretch-requires
+idle-stretch-requires c κs = search needs
+
+-- src/lib.rt:206:1
+returns : tie.Need-returns
+returns c = ?
+
+-- src/lib.rt:206:1
+returns-2 : tie.Need-returns-2
+returns-2 c = ?
+
+pub link-stretch-spec : {M : Type 1} → statement M
+link-stretch-spec =
+    tie.close
+    (tie.spec
+    nearest-requires
+    enum-known-frame
+    frame-stretch-requires
+    enum-known-free
+    idle-stretch-requires
+    returns
+    returns-2)
