@@ -1,19 +1,17 @@
 -- A walk along a lane: its segments show what the lane shows, and between them no entry begins.
 use Prim.Native.Nat.{ℕ, zero, suc, _+_, _-_, _*_, _≤_, _<_, min}
 use mathlib.Core.Path.{_≡_, refl, sym, ap, _∙_}
-use mathlib.Core.Bool.{Bool, true, false, not, _&&_, cond}
+use mathlib.Core.Bool.{Bool, true, false, not, _&&_, _||_, cond}
 use mathlib.Core.List.{List, _∷_, _++_, [], append-nil}
-use native.Mathlib.Nat.{not-suc-le-zero}
 use native.Mathlib.Omega.{arith}
 use native.Mathlib.Decide.{decLt}
-use lib.Dec.{ltb, eqb}
-use borrow.Author.Tests.{lt-ltb, le-ltb, eq-eqb}
+use lib.Dec.{ltb, eqb, eqb·suc-zero}
+use borrow.Author.Tests.{lt-ltb, le-ltb, eq-eqb, ne-eqb}
 use Rattle.plan.specs.Image.{cycleTicks}
 use Rattle.plan.specs.Search.{count}
-use Rattle.plan.specs.Dispatch as D
 use Rattle.plan.specs.Dispatch.{Shown, show, same, shownAt, begins, entries}
 use Rattle.plan.proofs.Counting.{count-next, count-same}
-use Rattle.lanes.specs.Walks.{stretchAt, segmentOf, Ahead, Shows, Walking, Stepping}
+use Rattle.lanes.specs.Walks.{stretchAt, idleStretch, segmentOf, Ahead, Shows, startWalk, Reached, StepFrom}
 use Rattle.lanes.specs.declared.Stretch.{Stretch}
 use Rattle.lanes.specs.declared.Segment.{Segment}
 use Rattle.lanes.specs.declared.Walk.{Walk}
@@ -61,27 +59,31 @@ module _ (shown : ℕ → Shown) (t ticks : ℕ) (r : Stretch) (h : Shows shown 
 -- ---- entries
 
 module _ (s : List ℕ) (lane : ℕ) where
-  -- at a tick after the first, an entry begins where what is shown differs from the tick before
-  pub begins-by : (t : ℕ) {x y : Shown} → 1 ≤ t → shownAt s lane t ≡ x → shownAt s lane (t - 1) ≡ y → begins s lane t ≡ not (same x y)
+  -- an entry begins at tick 0, and where what is shown differs from the tick before
+  begins-by : (t : ℕ) {x y : Shown} → shownAt s lane t ≡ x → (1 ≤ t → shownAt s lane (t - 1) ≡ y) → begins s lane t ≡ eqb t 0 || not (same x y)
   unfolding begins
-  begins-by zero l p q = absurd (not-suc-le-zero l)
-  begins-by (suc t) l p q = let e : suc t - 1 ≡ t = omega arith in let z = ap (shownAt s lane) e in cc
+  begins-by zero p q = refl
+  begins-by (suc t) p q =
+      let e : suc t - 1 ≡ t = omega arith in
+      let z = ap (shownAt s lane) e in let k = q (omega arith) in let n = eqb·suc-zero t in cc
 
-  module _ (w : Walk) (h : Walking s lane w) where
-    -- the last tick of a segment
-    pub last-shown : shownAt s lane (w .until - 1) ≡ show (w .kind) (w .row)
-    last-shown = h .shows (w .until - 1) (omega (arith, h .after)) (omega (arith, h .after))
-
+  module _ {t : ℕ} (w : Walk) (h : StepFrom s lane t w) where
     no-entry : (x : ℕ) → suc (w .from) ≤ x → x < w .until → begins s lane x ≡ false
     unfolding same show
     no-entry x lo hi =
-        begins-by x (omega arith) (h .shows x (omega arith) hi) (h .shows (x - 1) (omega arith) (omega arith))
-        ∙ rw (eq-eqb (w .kind) (w .kind) refl, eq-eqb (w .row) (w .row) refl) refl
+        begins-by x (h .shows x (omega arith) hi) (λ _. h .shows (x - 1) (omega arith) (omega arith))
+        ∙ rw (ne-eqb x 0 (λ q. absurd (omega arith)), eq-eqb (w .kind) (w .kind) refl, eq-eqb (w .row) (w .row) refl) refl
 
-    pub counted : count (w .until) (begins s lane) ≡ count (w .from) (begins s lane) + cond (w .begins) 1 0
+    counted : count (w .until) (begins s lane) ≡ count t (begins s lane) + cond (w .begins) 1 0
     counted =
         count-same (begins s lane) (suc (w .from)) (w .until) (h .after) (λ i lo hi. no-entry i lo hi)
-        ∙ count-next (begins s lane) (w .from) ∙ rw (h .begins) refl
+        ∙ count-next (begins s lane) (w .from) ∙ rw (h .begins, ← h .from) refl
+
+    pub count-yes : w .begins ≡ true → count (w .until) (begins s lane) ≡ count t (begins s lane) + 1
+    count-yes e = counted ∙ rw e refl
+
+    pub count-no : w .begins ≡ false → count (w .until) (begins s lane) ≡ count t (begins s lane)
+    count-no e = counted ∙ rw e (omega arith)
 
   entries-same : (m n : ℕ) → m ≤ n → ((i : ℕ) → m ≤ i → i < n → begins s lane i ≡ false) → entries s lane n ≡ entries s lane m
   unfolding entries
@@ -97,40 +99,38 @@ module _ (s : List ℕ) (lane : ℕ) where
   unfolding entries
   entries-next t e = rw e refl
 
-  module _ (w : Walk) (h : Walking s lane w) where
-    pub entered : entries s lane (w .until) ≡ entries s lane (w .from) ++ cond (w .begins) (w .from ∷ w .kind ∷ w .row ∷ []) []
+  module _ {t : ℕ} (w : Walk) (h : StepFrom s lane t w) where
+    entered : entries s lane (w .until) ≡ entries s lane t ++ cond (w .begins) (w .from ∷ w .kind ∷ w .row ∷ []) []
     unfolding show
     entered =
         entries-same (suc (w .from)) (w .until) (h .after) (λ i lo hi. no-entry w h i lo hi)
-        ∙ entries-next (w .from) (h .shows (w .from) (omega arith) (h .after)) ∙ rw (h .begins) refl
+        ∙ entries-next (w .from) (h .shows (w .from) (omega arith) (h .after)) ∙ rw (h .begins, ← h .from) refl
+
+    pub entries-yes : w .begins ≡ true → entries s lane (w .until) ≡ entries s lane t ++ (w .from ∷ w .kind ∷ w .row ∷ [])
+    entries-yes e = entered ∙ rw e refl
+
+    pub entries-no : w .begins ≡ false → entries s lane (w .until) ≡ entries s lane t
+    entries-no e = entered ∙ rw (e, append-nil) refl
 
   -- ---- a walk
 
-  pub starts : (r : Stretch) (g : Segment) → Shows (shownAt s lane) 0 (cycleTicks s) r → g ≡ segmentOf r 0
-      → Stepping s lane 0 (record { from = 0; until = g .until; kind = g .kind; row = g .row; begins = true; stretch = r })
-  unfolding begins
-  starts r g h e =
-      let k : Holds (shownAt s lane) 0 (cycleTicks s) r h g = rw e (segment (shownAt s lane) 0 (cycleTicks s) r h) in
+  pub started : Reached s lane startWalk
+  unfolding startWalk idleStretch
+  started =
       record {
-        from = refl;
-        walking =
-            record {
-              after = k .after;
-              within = omega (arith, k .inside, h .ahead .within);
-              shows = k .shows;
-              begins = refl;
-              ahead = further (omega arith) (h .ahead);
-            };
+        within = omega arith;
+        last = λ l. absurd (omega arith);
+        ahead = record { within = omega arith; shows = λ x lo hi. absurd (omega arith) };
       }
 
-  pub steps : (w : Walk) (r : Stretch) (g : Segment) → Walking s lane w → Shows (shownAt s lane) (w .until) (cycleTicks s) r → g ≡ segmentOf r (w .until)
-      → Stepping s lane (w .until)
+  pub steps : (w : Walk) (r : Stretch) (g : Segment) → Reached s lane w → Shows (shownAt s lane) (w .until) (cycleTicks s) r → g ≡ segmentOf r (w .until)
+      → StepFrom s lane (w .until)
       (record {
         from = w .until;
         until = g .until;
         kind = g .kind;
         row = g .row;
-        begins = not (eqb (g .kind) (w .kind) && eqb (g .row) (w .row));
+        begins = eqb (w .until) 0 || not (eqb (g .kind) (w .kind) && eqb (g .row) (w .row));
         stretch = r;
       })
   unfolding same show
@@ -138,12 +138,13 @@ module _ (s : List ℕ) (lane : ℕ) where
       let k : Holds (shownAt s lane) (w .until) (cycleTicks s) r h g = rw e (segment (shownAt s lane) (w .until) (cycleTicks s) r h) in
       record {
         from = refl;
-        walking =
-            record {
-              after = k .after;
-              within = omega (arith, k .inside, h .ahead .within);
-              shows = k .shows;
-              begins = sym (begins-by (w .until) (omega (arith, v .after)) (k .shows (w .until) (omega arith) (k .after)) (last-shown w v));
-              ahead = further (omega (arith, k .after)) (h .ahead);
-            };
+        after = k .after;
+        shows = k .shows;
+        begins = sym (begins-by (w .until) (k .shows (w .until) (omega arith) (k .after)) (v .last));
+        reached =
+          record {
+            within = omega (arith, k .inside, h .ahead .within);
+            last = λ _. k .shows (g .until - 1) (omega (arith, k .after)) (omega (arith, k .after));
+            ahead = further (omega (arith, k .after)) (h .ahead);
+          };
       }

@@ -1,8 +1,8 @@
 -- What a lane shows for a while, and a walk along a lane. How far a stretch or a segment reaches is open: these say only that what it
 -- shows is what the lane shows, and that it goes on.
-use Prim.Native.Nat.{ℕ, _+_, _≤_, _<_, min}
+use Prim.Native.Nat.{ℕ, _+_, _-_, _≤_, _<_, min}
 use mathlib.Core.Path.{_≡_}
-use mathlib.Core.Bool.{cond}
+use mathlib.Core.Bool.{false, cond}
 use mathlib.Core.List.{List}
 use lib.Dec.{ltb}
 use Rattle.plan.specs.Image.{cycleTicks, piece, window}
@@ -48,15 +48,23 @@ module _ (shown : ℕ → Shown) (t ticks : ℕ) where
     pub after : t < r .until
     pub ahead : Ahead r
 
+-- ---- a walk along a lane
+
+-- before tick 0
+unfoldable pub startWalk : Walk
+startWalk = record { from = 0; until = 0; kind = 0; row = 0; begins = false; stretch = idleStretch 0 }
+
 module _ (s : List ℕ) (lane : ℕ) where
-  pub record Walking (w : Walk) : Type 0 where
-    pub after : w .from < w .until
+  -- a walk's last tick, and what is known from there on
+  pub record Reached (w : Walk) : Type 0 where
     pub within : w .until ≤ cycleTicks s
-    pub shows : (x : ℕ) → w .from ≤ x → x < w .until → shownAt s lane x ≡ show (w .kind) (w .row)
-    pub begins : w .begins ≡ D.begins s lane (w .from)
+    pub last : 1 ≤ w .until → shownAt s lane (w .until - 1) ≡ show (w .kind) (w .row)
     pub ahead : Ahead (shownAt s lane) (w .until) (cycleTicks s) (w .stretch)
 
-  -- a walk that has come to tick t
-  pub record Stepping (t : ℕ) (w : Walk) : Type 0 where
+  -- a walk after a step from tick t
+  pub record StepFrom (t : ℕ) (w : Walk) : Type 0 where
     pub from : w .from ≡ t
-    pub walking : Walking w
+    pub after : w .from < w .until
+    pub shows : (x : ℕ) → w .from ≤ x → x < w .until → shownAt s lane x ≡ show (w .kind) (w .row)
+    pub begins : w .begins ≡ D.begins s lane (w .from)
+    pub reached : Reached w

@@ -10,7 +10,7 @@ ghost use Rattle.plan.specs.Held.{Sound};
 ghost use Rattle.plan.specs.Questions.{answerOf, accepted};
 ghost use Rattle.plan.specs.Dispatch.{onCore, onLink, shownAt, lanes, entryCount, entries};
 ghost use Rattle.lanes.specs.Taken.{tableFor, placeOf, fromOf, toOf, nearerOf, Nearest};
-ghost use Rattle.lanes.specs.Walks.{idleStretch, pieceStretch, windowStretch, frameStretch, segmentOf, Shows, Ahead, Walking, Stepping};
+ghost use Rattle.lanes.specs.Walks.{idleStretch, pieceStretch, windowStretch, frameStretch, segmentOf, Ahead, Shows, startWalk, Reached, StepFrom};
 ghost use Rattle.lanes.specs.Words.{putAt, Filled};
 use plan::Answer;
 use plan::Table;
@@ -275,38 +275,38 @@ struct Walk {
     stretch: Stretch,
 }
 
-fn start(image: &[u8], lane: u32) -> Walk
-    requires { ⌜ answerOf (now image) ≡ accepted ⌝ }
-    ensures { λ r. ⌜ Stepping (now (image .entry)) lane 0 r ⌝ }
+// Before tick 0: nothing is shown, and nothing is known.
+fn start() -> Walk
+    ensures { λ r. ⌜ r ≡ startWalk ⌝ }
 {
-    let stretch = stretch_at(image, lane, 0);
-    let first = segment_at(stretch, 0);
+    let stretch = idle_stretch(0);
     Walk {
         from: 0,
-        until: first.until,
-        kind: first.kind,
-        row: first.row,
-        begins: true,
+        until: 0,
+        kind: 0,
+        row: 0,
+        begins: false,
         stretch,
     }
 }
 
-// The next segment. Neighbours that are equal in kind and row belong to one entry.
+// The next segment. An entry begins at tick 0, and where kind or row are not those of the segment before.
 fn step(image: &[u8], lane: u32, walk: Walk) -> Walk
-    requires { ⌜ (answerOf (now image) ≡ accepted) × (Walking (now image) lane walk × (walk .until < cycleTicks (now image))) ⌝ }
-    ensures { λ r. ⌜ Stepping (now (image .entry)) lane (walk .until) r ⌝ }
+    requires { ⌜ (answerOf (now image) ≡ accepted) × (Reached (now image) lane walk × (walk .until < cycleTicks (now image))) ⌝ }
+    ensures { λ r. ⌜ StepFrom (now (image .entry)) lane (walk .until) r ⌝ }
 {
     let tick = walk.until;
     let known = walk.stretch;
     let stretch = go_on(image, lane, tick, known);
     let next = segment_at(stretch, tick);
+    let first = tick == 0;
     let same = (next.kind == walk.kind) & (next.row == walk.row);
     Walk {
         from: tick,
         until: next.until,
         kind: next.kind,
         row: next.row,
-        begins: !same,
+        begins: first | !same,
         stretch,
     }
 }
@@ -317,8 +317,8 @@ fn count_entries(image: &[u8], lane: u32) -> u32
     ensures { λ r. ⌜ r ≡ entryCount (now (image .entry)) lane ⌝ }
 {
     let ticks = cycle_ticks(image);
-    let mut walk = start(image, lane);
-    let mut count: u32 = 1;
+    let mut walk = start();
+    let mut count: u32 = 0;
     while walk.until < ticks {
         walk = step(image, lane, walk);
         if walk.begins {
@@ -344,9 +344,8 @@ fn write_entries(image: &[u8], lane: u32, words: &mut [u32])
     ensures { λ _. ⌜ now (words .exit) ≡ putAt (now (words .entry)) 2 (entries (now (image .entry)) lane (cycleTicks (now (image .entry)))) ⌝ }
 {
     let ticks = cycle_ticks(image);
-    let mut walk = start(image, lane);
-    put(words, 2, walk.from, walk.kind, walk.row);
-    let mut at: usize = 5;
+    let mut walk = start();
+    let mut at: usize = 2;
     while walk.until < ticks {
         walk = step(image, lane, walk);
         if walk.begins {
