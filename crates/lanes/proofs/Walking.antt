@@ -142,9 +142,9 @@ module _ (s : List ℕ) (lane : ℕ) where
         shows = k .shows;
         begins = sym (begins-by (w .until) (k .shows (w .until) (omega arith) (k .after)) (v .last));
         reached =
-          record {
-            within = omega (arith, k .inside, h .ahead .within);
-            last = λ _. k .shows (g .until - 1) (omega (arith, k .after)) (omega (arith, k .after));
-            ahead = further (omega (arith, k .after)) (h .ahead);
-          };
+            record {
+              within = omega (arith, k .inside, h .ahead .within);
+              last = λ _. k .shows (g .until - 1) (omega (arith, k .after)) (omega (arith, k .after));
+              ahead = further (omega (arith, k .after)) (h .ahead);
+            };
       }

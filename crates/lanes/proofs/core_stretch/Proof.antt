@@ -1,3 +1,8 @@
+use mathlib.Core.Path.{_≡_, refl, sym, ap, subst, _∙_}
+use Rattle.plan.proofs.Facts.{facts}
+use Rattle.lanes.specs.declared.Occupant.the-variants.{Piece, Window}
+use Rattle.lanes.specs.Taken.{tableFor, Nearest}
+use Rattle.lanes.proofs.Stretches.{piece-shows, window-shows, core-idles}
 use borrow.Author.Needs.{needs}
 use Rattle.lanes.proofs.core_stretch.Statement.{statement}
 use Rattle.lanes.proofs.core_stretch.Tie as tie
@@ -19,7 +24,8 @@ enum-known-piece c = search needs
 
 -- src/lib.rt:197:31
 piece-stretch-requires : tie.Need-piece-stretch-requires
-piece-stretch-requires c κs = ?
+unfolding tableFor
+piece-stretch-requires c κs = let a = c .before .before .before .before .before .args in let s = a .image .now in let h = subst (Nearest s Piece (a .core) (a .tick)) (c .before .piece .given .1) (c .before .before .before .nearest .ensures) in (c .before .before .before .before .before .pre .0, h .row)
 
 -- src/lib.rt:198:20
 enum-known-next : tie.Need-enum-known-next
@@ -35,7 +41,8 @@ enum-known-window c = search needs
 
 -- src/lib.rt:199:36
 window-stretch-requires : tie.Need-window-stretch-requires
-window-stretch-requires c κs = ?
+unfolding tableFor
+window-stretch-requires c κs = let a = c .before .before .before .before .before .before .before .before .before .args in let s = a .image .now in let h = subst (Nearest s Window (a .core) (a .tick)) (c .before .window .given .1) (c .before .before .before .nearest2 .ensures) in (c .before .before .before .before .before .before .before .before .before .pre .0, h .row)
 
 -- src/lib.rt:200:24
 enum-known-free : tie.Need-enum-known-free
@@ -51,15 +58,15 @@ idle-stretch-requires c κs = search needs
 
 -- src/lib.rt:192:1
 returns : tie.Need-returns
-returns c = ?
+returns c = let a = c .before .before .before .before .before .before .args in let s = a .image .now in let h = subst (Nearest s Piece (a .core) (a .tick)) (c .before .before .piece .given .1) (c .before .before .before .before .nearest .ensures) in rw (c .piece-stretch .ensures) (piece-shows s (a .core) (a .tick) (facts s (c .before .before .before .before .before .before .pre .0)) _ h)
 
 -- src/lib.rt:192:1
 returns-2 : tie.Need-returns-2
-returns-2 c = ?
+returns-2 c = let a = c .before .before .before .before .before .before .before .before .before .before .args in let s = a .image .now in let g = subst (Nearest s Piece (a .core) (a .tick)) (c .before .before .before .before .before .before .next .given .1) (c .before .before .before .before .before .before .before .before .nearest .ensures) in let h = subst (Nearest s Window (a .core) (a .tick)) (c .before .before .window .given .1) (c .before .before .before .before .nearest2 .ensures) in rw (c .window-stretch .ensures) (window-shows s (a .core) (a .tick) _ _ g h)
 
 -- src/lib.rt:192:1
 returns-3 : tie.Need-returns-3
-returns-3 c = ?
+returns-3 c = let a = c .before .before .before .before .before .before .before .before .before .before .before .args in let s = a .image .now in let g = subst (Nearest s Piece (a .core) (a .tick)) (c .before .before .before .before .before .before .before .next .given .1) (c .before .before .before .before .before .before .before .before .before .nearest .ensures) in let h = subst (Nearest s Window (a .core) (a .tick)) (c .before .before .before .free .given .1) (c .before .before .before .before .before .nearest2 .ensures) in rw (c .idle-stretch .ensures, c .before .least .ensures) (core-idles s (a .core) (a .tick) _ _ g h)
 
 pub core-stretch-spec : {M : Type 1} → statement M
 core-stretch-spec =

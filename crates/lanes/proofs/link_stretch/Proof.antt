@@ -1,3 +1,7 @@
+use mathlib.Core.Path.{_≡_, refl, sym, ap, subst, _∙_}
+use Rattle.lanes.specs.declared.Occupant.the-variants.{Frame}
+use Rattle.lanes.specs.Taken.{Nearest}
+use Rattle.lanes.proofs.Stretches.{frame-sends, link-idles}
 use borrow.Author.Needs.{needs}
 use Rattle.lanes.proofs.link_stretch.Statement.{statement}
 use Rattle.lanes.proofs.link_stretch.Tie as tie
@@ -17,7 +21,7 @@ enum-known-frame c = search needs
 
 -- src/lib.rt:211:31
 frame-stretch-requires : tie.Need-frame-stretch-requires
-frame-stretch-requires c κs = ?
+frame-stretch-requires c κs = let a = c .before .before .before .before .before .args in let s = a .image .now in let h = subst (Nearest s Frame (a .link) (a .tick)) (c .before .frame .given .1) (c .before .before .before .nearest .ensures) in (c .before .before .before .before .before .pre .0, h .row)
 
 -- src/lib.rt:212:20
 enum-known-free : tie.Need-enum-known-free
@@ -29,11 +33,11 @@ idle-stretch-requires c κs = search needs
 
 -- src/lib.rt:206:1
 returns : tie.Need-returns
-returns c = ?
+returns c = let a = c .before .before .before .before .before .before .args in let s = a .image .now in let h = subst (Nearest s Frame (a .link) (a .tick)) (c .before .before .frame .given .1) (c .before .before .before .before .nearest .ensures) in rw (c .frame-stretch .ensures) (frame-sends s (a .link) (a .tick) _ h)
 
 -- src/lib.rt:206:1
 returns-2 : tie.Need-returns-2
-returns-2 c = ?
+returns-2 c = let a = c .before .before .before .before .before .before .args in let s = a .image .now in let h = subst (Nearest s Frame (a .link) (a .tick)) (c .before .before .free .given .1) (c .before .before .before .before .nearest .ensures) in rw (c .idle-stretch .ensures) (link-idles s (a .link) (a .tick) _ h)
 
 pub link-stretch-spec : {M : Type 1} → statement M
 link-stretch-spec =

@@ -1,0 +1,17 @@
+use borrow.Author.Needs.{needs}
+use Rattle.lanes.proofs.start.Statement.{statement}
+use Rattle.lanes.proofs.start.Tie as tie
+use Rattle.lanes.proofs.start.Reads as reads
+use Rattle.lanes.proofs.start.Lts as lts
+use Rattle.lanes.proofs.idle_stretch.Reads as idle-stretch-reads
+
+-- src/lib.rt:282:9
+idle-stretch-requires : tie.Need-idle-stretch-requires
+idle-stretch-requires c κs = search needs
+
+-- src/lib.rt:279:1
+returns : tie.Need-returns
+returns c = ?
+
+pub start-spec : {M : Type 1} → statement M
+start-spec = tie.close (tie.spec idle-stretch-requires returns)

@@ -1,0 +1,22 @@
+use borrow.Author.Needs.{needs}
+use Rattle.lanes.proofs.step.Statement.{statement}
+use Rattle.lanes.proofs.step.Tie as tie
+use Rattle.lanes.proofs.step.Reads as reads
+use Rattle.lanes.proofs.step.Lts as lts
+use Rattle.lanes.proofs.go_on.Reads as go-on-reads
+use Rattle.lanes.proofs.segment_at.Reads as segment-at-reads
+
+-- src/lib.rt:300:9
+go-on-requires : tie.Need-go-on-requires
+go-on-requires c κs = search needs
+
+-- src/lib.rt:301:9
+segment-at-requires : tie.Need-segment-at-requires
+segment-at-requires c κs = search needs
+
+-- src/lib.rt:294:1
+returns : tie.Need-returns
+returns c = ?
+
+pub step-spec : {M : Type 1} → statement M
+step-spec = tie.close (tie.spec go-on-requires segment-at-requires returns)
