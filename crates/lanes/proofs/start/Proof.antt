@@ -1,3 +1,5 @@
+use mathlib.Core.Path.{_≡_, refl, sym, ap, subst, _∙_}
+use Rattle.lanes.specs.Walks.{startWalk}
 use borrow.Author.Needs.{needs}
 use Rattle.lanes.proofs.start.Statement.{statement}
 use Rattle.lanes.proofs.start.Tie as tie
@@ -11,7 +13,8 @@ idle-stretch-requires c κs = search needs
 
 -- src/lib.rt:279:1
 returns : tie.Need-returns
-returns c = ?
+unfolding startWalk
+returns c = rw (c .idle-stretch .ensures) refl
 
 pub start-spec : {M : Type 1} → statement M
 start-spec = tie.close (tie.spec idle-stretch-requires returns)

@@ -1,3 +1,4 @@
+use Rattle.lanes.proofs.Walking.{steps}
 use borrow.Author.Needs.{needs}
 use Rattle.lanes.proofs.step.Statement.{statement}
 use Rattle.lanes.proofs.step.Tie as tie
@@ -16,7 +17,7 @@ segment-at-requires c κs = search needs
 
 -- src/lib.rt:294:1
 returns : tie.Need-returns
-returns c = ?
+returns c = let a = c .before .before .before .before .before .before .before .before .args in steps (a .image .now) (a .lane) (a .walk) _ _ (c .before .before .before .before .before .before .before .before .pre .1 .0) (c .before .before .before .before .before .go-on .ensures) (c .before .before .before .before .segment-at .ensures)
 
 pub step-spec : {M : Type 1} → statement M
 step-spec = tie.close (tie.spec go-on-requires segment-at-requires returns)
