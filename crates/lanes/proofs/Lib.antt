@@ -3,3 +3,4 @@ pub mod Searches
 pub mod Stretches
 pub mod Walking
 pub mod Writing
+pub mod Building

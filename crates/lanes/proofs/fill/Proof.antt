@@ -1,0 +1,74 @@
+use borrow.Author.Needs.{needs}
+use Rattle.lanes.proofs.fill.Statement.{statement}
+use Rattle.lanes.proofs.fill.Tie as tie
+use Rattle.lanes.proofs.fill.Reads as reads
+use Rattle.lanes.proofs.fill.Lts as lts
+use Rattle.lanes.proofs.count_entries.Reads as count-entries-reads
+use Rattle.lanes.proofs.write_entries.Reads as write-entries-reads
+use Rattle.plan.proofs.accepted.Reads as accepted-reads
+use Rattle.tables.proofs.cycle_ticks.Reads as cycle-ticks-reads
+
+-- src/lib.rt:363:9
+count-entries-requires : tie.Need-count-entries-requires
+count-entries-requires c κs = search needs
+
+-- src/lib.rt:364:30
+cast-if1 : tie.Need-cast-if1
+cast-if1 c = search needs
+
+-- src/lib.rt:364:26
+mul-if1 : tie.Need-mul-if1
+mul-if1 c = search needs
+
+-- src/lib.rt:364:22
+add-if1 : tie.Need-add-if1
+add-if1 c = search needs
+
+-- src/lib.rt:365:9
+returns : tie.Need-returns
+returns c = ?
+
+-- src/lib.rt:371:16
+cycle-ticks-requires : tie.Need-cycle-ticks-requires
+cycle-ticks-requires c κs = ?
+
+-- src/lib.rt:371:5
+slice-write-words : tie.Need-slice-write-words
+slice-write-words c = search needs
+
+-- src/lib.rt:372:5
+slice-write-words-2 : tie.Need-slice-write-words-2
+slice-write-words-2 c = ?
+
+-- src/lib.rt:373:5
+write-entries-requires : tie.Need-write-entries-requires
+write-entries-requires c κs = ?
+
+-- src/lib.rt:374:5
+accepted-requires : tie.Need-accepted-requires
+accepted-requires c κs = search needs
+
+-- src/lib.rt:359:1
+same-length : tie.Need-same-length
+same-length c = ?
+
+-- src/lib.rt:359:1
+returns-2 : tie.Need-returns-2
+returns-2 c = ?
+
+pub fill-spec : {M : Type 1} → statement M
+fill-spec =
+    tie.close
+    (tie.spec
+    count-entries-requires
+    cast-if1
+    mul-if1
+    add-if1
+    returns
+    cycle-ticks-requires
+    slice-write-words
+    slice-write-words-2
+    write-entries-requires
+    accepted-requires
+    same-length
+    returns-2)
