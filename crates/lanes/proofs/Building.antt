@@ -107,8 +107,16 @@ module _ (s : List ℕ) (lane : ℕ) (words : List ℕ) where
           record { answer = sym q; left = rw q refl }
 
   -- H, n and the entries make the table
-  pub table-put : 2 + 3 * entryCount s lane ≤ length words
+  table-put : 2 + 3 * entryCount s lane ≤ length words
       → putAt (set (set words 0 (cycleTicks s)) 1 (entryCount s lane)) 2 (entries s lane (cycleTicks s)) ≡ tableOf s lane ++ drop (length (tableOf s lane)) words
   unfolding tableOf entryCount
   table-put h =
       put-head words (entries s lane (cycleTicks s)) (cycleTicks s) (entryCount s lane) (omega (arith, entries-length s lane (cycleTicks s)))
+
+  -- so a call that stores them is done
+  pub filled : answerOf s ≡ accepted → lane < lanes s → (h n : ℕ) (after : List ℕ) (r : Answer) → h ≡ cycleTicks s → n ≡ entryCount s lane
+      → 2 + 3 * n ≤ length words → after ≡ putAt (set (set words 0 h) 1 n) 2 (entries s lane (cycleTicks s)) → r ≡ accepted → Filled s lane words r after
+  filled e l h n after r p q k a b =
+      let m : 2 + 3 * entryCount s lane ≤ length words = omega arith in
+      let t : after ≡ tableOf s lane ++ drop (length (tableOf s lane)) words = a ∙ rw (p, q) (table-put m) in
+      rw (b, t) (build-done e l m)
