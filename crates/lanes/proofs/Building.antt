@@ -1,5 +1,5 @@
 -- Table building by its answers: refused by the check, 25, 26, or done.
-use Prim.Native.Nat.{ℕ, _+_, _*_, _≤_, _<_}
+use Prim.Native.Nat.{ℕ, zero, suc, _+_, _*_, _≤_, _<_}
 use mathlib.Core.Path.{_≡_, refl, sym, ap, _∙_}
 use mathlib.Core.Logic.{_≢_}
 use mathlib.Core.Bool.{Bool, true, false}
@@ -105,6 +105,16 @@ module _ (s : List ℕ) (lane : ℕ) (words : List ℕ) where
       build-done h =
           let q : buildAnswer s lane words ≡ accepted = asks-26 ∙ whole-yes 26 (leb (2 + 3 * entryCount s lane) (length words)) [] (le-leb _ _ h) in
           record { answer = sym q; left = rw q refl }
+
+  -- only an accepted plan is built
+  pub built-accepted : buildAnswer s lane words .number ≡ 0 → answerOf s ≡ accepted
+  built-accepted e = go (answerOf s .number) refl
+    where
+      go : (n : ℕ) → answerOf s .number ≡ n → answerOf s ≡ accepted
+      go zero q = accepted-of s q
+      go (suc n) q =
+          let h : answerOf s .number ≢ 0 = λ z. absurd (omega arith) in
+          absurd (h (ap (λ (a : Answer). a .number) (build-refused h .answer) ∙ e))
 
   -- H, n and the entries make the table
   table-put : 2 + 3 * entryCount s lane ≤ length words

@@ -4,3 +4,4 @@ pub mod Stretches
 pub mod Walking
 pub mod Writing
 pub mod Building
+pub mod Reading
