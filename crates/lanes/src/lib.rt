@@ -343,10 +343,10 @@ fn write_entries(image: &[u8], lane: u32, words: &mut [u32])
     requires { ⌜ (answerOf (now image) ≡ accepted) × (2 + 3 * entryCount (now image) lane ≤ length (now words)) ⌝ }
     ensures { λ _. ⌜ now (words .exit) ≡ putAt (now (words .entry)) 2 (entries (now (image .entry)) lane (cycleTicks (now (image .entry)))) ⌝ }
 {
-    let ticks = cycle_ticks(image);
+    let end = cycle_ticks(image);
     let mut walk = start();
     let mut at: usize = 2;
-    while walk.until < ticks {
+    while walk.until < end {
         walk = step(image, lane, walk);
         if walk.begins {
             put(words, at, walk.from, walk.kind, walk.row);

@@ -18,10 +18,10 @@ use Rattle.lanes.proofs.step.Reads as step-reads
 use Rattle.tables.proofs.cycle_ticks.Reads as cycle-ticks-reads
 
 abbrev Inv-loop : tie.InvT-loop
-Inv-loop image lane words₀ ticks walk₀ at₀ words walk at = Reached image lane walk × Written image lane words₀ (walk .until) words at
+Inv-loop image lane words₀ end walk₀ at₀ words walk at = Reached image lane walk × Written image lane words₀ (walk .until) words at
 
 abbrev μ-loop : tie.MeasureT-loop
-μ-loop image lane words₀ ticks walk₀ at₀ words walk at = ticks - walk .until
+μ-loop image lane words₀ end walk₀ at₀ words walk at = end - walk .until
 
 -- src/lib.rt:346:9
 cycle-ticks-requires : tie.Need-cycle-ticks-requires Inv-loop μ-loop
