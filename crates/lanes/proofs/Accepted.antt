@@ -5,15 +5,14 @@ use mathlib.Core.Path.{_≡_}
 use mathlib.Core.List.{List, _∷_, _++_, []}
 use native.Mathlib.Nat.{le-div-iff-mul-le}
 use native.Mathlib.Omega.{arith}
-use lib.ListN.{length}
 use Rattle.plan.specs.declared.Table.{Table}
 use Rattle.plan.specs.declared.Table.the-variants.{Cores, Vcpus, Tasks, Windows, Pieces, Links, Streams, Frames, Buffers}
-use Rattle.plan.specs.Image.{tables, shape, trailerBytes, trailerAt, tableEnd, rows, cycleTicks, precision, piece, task, window, stream, frame}
+use Rattle.plan.specs.Image.{tables, shape, trailerAt, tableEnd, rows, cycleTicks, piece, task, window, stream, frame}
 use Rattle.plan.specs.Search.{Interval}
 use Rattle.plan.specs.Questions.{answerOf, accepted, jobs, streamPeriod, pieceEnd, windowEnd, frameEnd, switchTicks, charge, windowInterval, pieceInterval, frameInterval}
 use Rattle.plan.specs.Reading as R
 use Rattle.plan.specs.Reading.{Meaning, AllHold, Holds, Laid, Apart, meanings, imageMeanings, planMeanings, whole, eachTable}
-use Rattle.plan.specs.Held.{InImage, Sound}
+use Rattle.plan.specs.Held.{Sound}
 use Rattle.plan.proofs.Meanings.{accepted-means}
 use Rattle.plan.proofs.Facts.{Facts, facts}
 use Rattle.lanes.specs.Taken.{tableFor, placeOf, fromOf, toOf}

@@ -8,11 +8,11 @@ use native.Mathlib.Nat.{not-suc-le-zero, eq-or-lt-of-le, le-of-suc-le-suc}
 use native.Mathlib.Omega.{arith}
 use native.Mathlib.Decide.{decLt}
 use lib.ListN.{length, getD, drop, List·getD-append}
-use lib.Dec.{leb, eqb}
+use lib.Dec.{leb}
 use borrow.Author.Tests.{le-leb, lt-leb, eq-eqb}
 use Rattle.plan.specs.Image.{cycleTicks}
 use Rattle.plan.specs.Search.{count}
-use Rattle.plan.specs.Dispatch.{Shown, show, same, shownAt, begins, entries, entryCount, tableOf, buildAnswer, built}
+use Rattle.plan.specs.Dispatch.{show, same, shownAt, begins, entries, entryCount, tableOf, buildAnswer, built}
 use Rattle.plan.proofs.Tests.{no-count}
 use Rattle.plan.proofs.Tables.{count-lt, count-mono, nth, triple, entries-length, entry-word, current, begins-zero}
 use Rattle.plan.proofs.Facts.{facts}

@@ -1,6 +1,6 @@
 -- The search for the row that takes up a tick: what its loop has seen, and what it gives.
 use Prim.Native.Nat.{ℕ, suc, _+_, _≤_, _<_}
-use mathlib.Core.Path.{_≡_, refl, sym, ap, _∙_, subst}
+use mathlib.Core.Path.{_≡_, refl, sym, ap, _∙_}
 use mathlib.Core.Logic.{_⊎_, inl, inr}
 use mathlib.Core.Bool.{Bool, true, false, not, _&&_, true≢false}
 use mathlib.Core.List.{List}
@@ -9,8 +9,7 @@ use native.Mathlib.Omega.{arith}
 use native.Mathlib.Decide.{decLt}
 use lib.Dec.{leb, ltb, eqb}
 use borrow.Author.Tests.{eqb-true, eq-eqb, ltb-true, leb-true, lt-ltb, le-leb}
-use Rattle.plan.specs.declared.Found.{Found}
-use Rattle.plan.specs.declared.Found.the-variants.{At, Nothing}
+use Rattle.plan.specs.declared.Found.the-variants.{Nothing}
 use Rattle.plan.specs.Image.{rows, cycleTicks}
 use Rattle.plan.specs.Search.{first}
 use Rattle.plan.proofs.Searching.{and-true, none-iff}

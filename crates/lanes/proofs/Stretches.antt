@@ -9,12 +9,12 @@ use Rattle.plan.specs.declared.Table.the-variants.{Cores}
 use Rattle.plan.specs.declared.Found.{Found}
 use Rattle.plan.specs.declared.Found.the-variants.{At, Nothing}
 use Rattle.plan.specs.Image.{rows, cycleTicks, window}
-use Rattle.plan.specs.Questions.{windowEnd, charge}
-use Rattle.plan.specs.Dispatch.{Shown, show, pieceAt, windowAt, frameAt, onCore, onLink, shownAt}
+use Rattle.plan.specs.Questions.{charge}
+use Rattle.plan.specs.Dispatch.{show, pieceAt, windowAt, frameAt, onCore, onLink, shownAt}
 use Rattle.plan.proofs.Facts.{Facts}
 use Rattle.plan.proofs.Shows.{core-piece, core-lane, link-lane}
 use Rattle.lanes.specs.Taken.{tableFor, placeOf, fromOf, toOf, covers, takenBy, TakenFrom, FreeFrom}
-use Rattle.lanes.specs.Walks.{stretchAt, idleStretch, pieceStretch, windowStretch, frameStretch, Ahead, Shows}
+use Rattle.lanes.specs.Walks.{stretchAt, idleStretch, pieceStretch, windowStretch, frameStretch, Shows}
 use Rattle.lanes.specs.declared.Occupant.the-variants.{Piece, Window, Frame}
 use Rattle.lanes.specs.declared.Stretch.{Stretch}
 

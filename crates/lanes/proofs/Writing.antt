@@ -5,16 +5,15 @@ use mathlib.Core.Bool.{true, false}
 use mathlib.Core.List.{List, _∷_, _++_, []}
 use native.Mathlib.Nat.{add-zero, zero-add}
 use native.Mathlib.Omega.{arith}
-use lib.ListN.{length, take, drop, set, length-append, length-set}
+use lib.ListN.{length, drop, set, length-append, length-set}
 use lib.Seq.{sets, sets-eq, length-sets}
 use Rattle.plan.specs.Image.{cycleTicks}
-use Rattle.plan.specs.Search.{count}
 use Rattle.plan.specs.Dispatch.{begins, entries, entryCount}
 use Rattle.plan.proofs.Tables.{entries-length, count-mono}
 use Rattle.lanes.specs.declared.Walk.{Walk}
 use Rattle.lanes.specs.Walks.{StepFrom}
 use Rattle.lanes.specs.Words.{putAt}
-use Rattle.lanes.proofs.Walking.{count-yes, entries-yes, entries-no}
+use Rattle.lanes.proofs.Walking.{entries-yes, entries-no}
 
 -- stored one after another
 pub put-sets : (words xs : List ℕ) (i : ℕ) → i + length xs ≤ length words → putAt words i xs ≡ sets words i xs

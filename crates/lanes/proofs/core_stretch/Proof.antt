@@ -1,4 +1,4 @@
-use mathlib.Core.Path.{_≡_, refl, sym, ap, subst, _∙_}
+use mathlib.Core.Path.{subst}
 use Rattle.plan.proofs.Facts.{facts}
 use Rattle.lanes.specs.declared.Occupant.the-variants.{Piece, Window}
 use Rattle.lanes.specs.Taken.{tableFor, Nearest}
@@ -14,57 +14,44 @@ use Rattle.lanes.proofs.nearest.Reads as nearest-reads
 use Rattle.lanes.proofs.piece_stretch.Reads as piece-stretch-reads
 use Rattle.lanes.proofs.window_stretch.Reads as window-stretch-reads
 
--- src/lib.rt:196:11
 nearest-requires : tie.Need-nearest-requires
 nearest-requires c κs = search needs
 
--- src/lib.rt:197:21
 enum-known-piece : tie.Need-enum-known-piece
 enum-known-piece c = search needs
 
--- src/lib.rt:197:31
 piece-stretch-requires : tie.Need-piece-stretch-requires
 unfolding tableFor
 piece-stretch-requires c κs = let a = c .before .before .before .before .before .args in let s = a .image .now in let h = subst (Nearest s Piece (a .core) (a .tick)) (c .before .piece .given .1) (c .before .before .before .nearest .ensures) in (c .before .before .before .before .before .pre .0, h .row)
 
--- src/lib.rt:198:20
 enum-known-next : tie.Need-enum-known-next
 enum-known-next c = search needs
 
--- src/lib.rt:198:35
 nearest-requires-2 : tie.Need-nearest-requires-2
 nearest-requires-2 c κs = search needs
 
--- src/lib.rt:199:25
 enum-known-window : tie.Need-enum-known-window
 enum-known-window c = search needs
 
--- src/lib.rt:199:36
 window-stretch-requires : tie.Need-window-stretch-requires
 unfolding tableFor
 window-stretch-requires c κs = let a = c .before .before .before .before .before .before .before .before .before .args in let s = a .image .now in let h = subst (Nearest s Window (a .core) (a .tick)) (c .before .window .given .1) (c .before .before .before .nearest2 .ensures) in (c .before .before .before .before .before .before .before .before .before .pre .0, h .row)
 
--- src/lib.rt:200:24
 enum-known-free : tie.Need-enum-known-free
 enum-known-free c = search needs
 
--- src/lib.rt:200:46
 least-requires : tie.Need-least-requires
 least-requires c κs = search needs
 
--- src/lib.rt:200:33
 idle-stretch-requires : tie.Need-idle-stretch-requires
 idle-stretch-requires c κs = search needs
 
--- src/lib.rt:192:1
 returns : tie.Need-returns
 returns c = let a = c .before .before .before .before .before .before .args in let s = a .image .now in let h = subst (Nearest s Piece (a .core) (a .tick)) (c .before .before .piece .given .1) (c .before .before .before .before .nearest .ensures) in rw (c .piece-stretch .ensures) (piece-shows s (a .core) (a .tick) (facts s (c .before .before .before .before .before .before .pre .0)) _ h)
 
--- src/lib.rt:192:1
 returns-2 : tie.Need-returns-2
 returns-2 c = let a = c .before .before .before .before .before .before .before .before .before .before .args in let s = a .image .now in let g = subst (Nearest s Piece (a .core) (a .tick)) (c .before .before .before .before .before .before .next .given .1) (c .before .before .before .before .before .before .before .before .nearest .ensures) in let h = subst (Nearest s Window (a .core) (a .tick)) (c .before .before .window .given .1) (c .before .before .before .before .nearest2 .ensures) in rw (c .window-stretch .ensures) (window-shows s (a .core) (a .tick) _ _ g h)
 
--- src/lib.rt:192:1
 returns-3 : tie.Need-returns-3
 returns-3 c = let a = c .before .before .before .before .before .before .before .before .before .before .before .args in let s = a .image .now in let g = subst (Nearest s Piece (a .core) (a .tick)) (c .before .before .before .before .before .before .before .next .given .1) (c .before .before .before .before .before .before .before .before .before .nearest .ensures) in let h = subst (Nearest s Window (a .core) (a .tick)) (c .before .before .before .free .given .1) (c .before .before .before .before .before .nearest2 .ensures) in rw (c .idle-stretch .ensures, c .before .least .ensures) (core-idles s (a .core) (a .tick) _ _ g h)
 

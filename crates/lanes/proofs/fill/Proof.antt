@@ -1,4 +1,4 @@
-use mathlib.Core.Path.{_≡_, refl, sym, ap, subst, _∙_}
+use mathlib.Core.Path.{_∙_}
 use native.Mathlib.Omega.{arith}
 use lib.ListN.{length-set}
 use Rattle.lanes.proofs.Accepted.{sound}
@@ -13,51 +13,39 @@ use Rattle.lanes.proofs.write_entries.Reads as write-entries-reads
 use Rattle.plan.proofs.accepted.Reads as accepted-reads
 use Rattle.tables.proofs.cycle_ticks.Reads as cycle-ticks-reads
 
--- src/lib.rt:363:9
 count-entries-requires : tie.Need-count-entries-requires
 count-entries-requires c κs = search needs
 
--- src/lib.rt:364:30
 cast-if1 : tie.Need-cast-if1
 cast-if1 c = search needs
 
--- src/lib.rt:364:26
 mul-if1 : tie.Need-mul-if1
 mul-if1 c = search needs
 
--- src/lib.rt:364:22
 add-if1 : tie.Need-add-if1
 add-if1 c = search needs
 
--- src/lib.rt:365:9
 returns : tie.Need-returns
 returns c = let a = c .before .before .before .before .args in let p = c .before .before .before .before .pre in build-short (a .image .now) (a .lane) (a .words .now) (p .0) (p .1) (omega (arith, c .before .count-entries .ensures, c .if1 .taken))
 
--- src/lib.rt:371:16
 cycle-ticks-requires : tie.Need-cycle-ticks-requires
 cycle-ticks-requires c κs = sound _ (c .before .before .before .before .pre .0) .inside .trailer
 
--- src/lib.rt:371:5
 slice-write-words : tie.Need-slice-write-words
 slice-write-words c = search needs
 
--- src/lib.rt:372:5
 slice-write-words-2 : tie.Need-slice-write-words-2
 slice-write-words-2 c = simp length-set (omega (arith, c .before .if1 .left))
 
--- src/lib.rt:373:5
 write-entries-requires : tie.Need-write-entries-requires
 write-entries-requires c κs = (c .before .before .before .before .before .before .pre .0, simp length-set (omega (arith, c .before .before .before .count-entries .ensures, c .before .before .if1 .left)))
 
--- src/lib.rt:374:5
 accepted-requires : tie.Need-accepted-requires
 accepted-requires c κs = search needs
 
--- src/lib.rt:359:1
 same-length : tie.Need-same-length
 same-length c = c .before .before .before .write-entries .kept .1 .1 .0 ∙ simp length-set
 
--- src/lib.rt:359:1
 returns-2 : tie.Need-returns-2
 returns-2 c = let a = c .before .before .before .before .before .before .before .before .before .before .args in let p = c .before .before .before .before .before .before .before .before .before .before .pre in filled (a .image .now) (a .lane) (a .words .now) (p .0) (p .1) _ _ _ _ (c .before .before .before .before .before .cycle-ticks .ensures) (c .before .before .before .before .before .before .before .count-entries .ensures) (c .before .before .before .before .before .before .if1 .left) (c .before .before .before .write-entries .ensures) (c .accepted .ensures)
 

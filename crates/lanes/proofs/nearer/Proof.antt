@@ -1,4 +1,4 @@
-use mathlib.Core.Path.{_≡_, refl, sym, ap, subst, _∙_}
+use mathlib.Core.Path.{refl}
 use Rattle.lanes.specs.Taken.{nearerOf}
 use borrow.Author.Needs.{needs}
 use Rattle.lanes.proofs.nearer.Statement.{statement}
@@ -9,24 +9,19 @@ use Rattle.lanes.proofs.from_of.Reads as from-of-reads
 use Rattle.lanes.proofs.place_of.Reads as place-of-reads
 use Rattle.lanes.proofs.to_of.Reads as to-of-reads
 
--- src/lib.rt:88:9
 from-of-requires : tie.Need-from-of-requires
 from-of-requires c κs = search needs
 
--- src/lib.rt:88:66
 to-of-requires : tie.Need-to-of-requires
 to-of-requires c κs = search needs
 
--- src/lib.rt:89:16
 place-of-requires : tie.Need-place-of-requires
 place-of-requires c κs = search needs
 
--- src/lib.rt:89:9
 returns : tie.Need-returns
 unfolding nearerOf
 returns c = rw (← c .before .before .before .from-of .ensures, ← c .before .before .to-of .ensures, ← c .place-of .ensures, c .before .if1 .taken) refl
 
--- src/lib.rt:84:1
 returns-2 : tie.Need-returns-2
 unfolding nearerOf
 returns-2 c = rw (← c .before .before .from-of .ensures, ← c .before .to-of .ensures, c .if1 .left) refl

@@ -1,5 +1,5 @@
-use Prim.Native.Nat.{ℕ, _+_, _-_, _≤_, _<_}
-use mathlib.Core.Path.{_≡_, refl, sym, ap, subst, _∙_}
+use Prim.Native.Nat.{ℕ, _+_, _-_, _≤_}
+use mathlib.Core.Path.{_≡_, sym, ap, subst, _∙_}
 use mathlib.Core.Logic.{⊎-elim}
 use native.Mathlib.Omega.{arith}
 use Rattle.plan.specs.Image.{rows}
@@ -23,47 +23,36 @@ Inv-loop image occupant place tick rows next₀ row₀ next row = (row ≤ rows)
 abbrev μ-loop : tie.MeasureT-loop
 μ-loop image occupant place tick rows next₀ row₀ next row = rows - row
 
--- src/lib.rt:104:31
 table-for-requires : tie.Need-table-for-requires Inv-loop μ-loop
 table-for-requires c κs = tt
 
--- src/lib.rt:104:9
 rows-of-requires : tie.Need-rows-of-requires Inv-loop μ-loop
 rows-of-requires c κs = sound _ (c .before .before .pre .0) .inside .trailer
 
--- src/lib.rt:105:9
 cycle-ticks-requires : tie.Need-cycle-ticks-requires Inv-loop μ-loop
 cycle-ticks-requires c κs = sound _ (c .before .before .before .pre .0) .inside .trailer
 
--- src/lib.rt:107:5
 loop-holds : tie.Need-loop-holds Inv-loop μ-loop
 loop-holds c = let a = c .before .before .before .before .args in let s = a .image .now in (omega arith, subst (Seen s (a .occupant) (a .place) (a .tick) 0) (sym (c .cycle-ticks .ensures)) (seen-none s (a .occupant) (a .place) (a .tick) (c .before .before .before .before .pre .1)))
 
--- src/lib.rt:108:12
 nearer-requires : tie.Need-nearer-requires Inv-loop μ-loop
 nearer-requires c κs = let a = c .before .before .before .before .before .before .args in let e = c .before .before .before .rows-of .ensures ∙ ap (rows (a .image .now)) (c .before .before .before .before .table-for .ensures) in (sound _ (c .before .before .before .before .before .before .pre .0), omega (arith, e, c .loop-test .taken))
 
--- src/lib.rt:109:17
 from-of-requires : tie.Need-from-of-requires Inv-loop μ-loop
 from-of-requires c κs = let a = c .before .before .before .before .before .before .before .before .args in let e = c .before .before .before .before .before .rows-of .ensures ∙ ap (rows (a .image .now)) (c .before .before .before .before .before .before .table-for .ensures) in (sound _ (c .before .before .before .before .before .before .before .before .pre .0), omega (arith, e, c .before .before .loop-test .taken))
 
--- src/lib.rt:111:17
 returns : tie.Need-returns Inv-loop μ-loop
 returns c = let a = c .before .before .before .before .before .before .before .before .before .before .args in let s = a .image .now in let l = c .before .before .before .before .before .loop in let e = c .before .before .before .before .before .before .before .rows-of .ensures ∙ ap (rows s) (c .before .before .before .before .before .before .before .before .table-for .ensures) in taken s (a .occupant) (a .place) (a .tick) (facts s (c .before .before .before .before .before .before .before .before .before .before .pre .0)) (l .row) (l .next) (omega (arith, e, c .before .before .before .before .loop-test .taken)) (sym (c .before .before .before .nearer .ensures) ∙ c .before .before .if1 .taken) (omega (arith, c .before .from-of .ensures, c .if2 .taken))
 
--- src/lib.rt:115:9
 add-row : tie.Need-add-row Inv-loop μ-loop
 add-row c = omega arith
 
--- src/lib.rt:107:5
 loop-less : tie.Need-loop-less Inv-loop μ-loop
 loop-less c = omega arith
 
--- src/lib.rt:107:5
 loop-again : tie.Need-loop-again Inv-loop μ-loop
 loop-again c = let a = c .before .before .before .before .before .before .before .before .args in let s = a .image .now in let l = c .before .before .before .loop in let v = Seen s (a .occupant) (a .place) (a .tick) (l .row + 1) in let e = c .before .nearer .ensures in ⊎-elim (λ w. (omega arith, subst v (sym (w .3 ∙ w .1 .ensures)) (seen-to s (a .occupant) (a .place) (a .tick) (l .row) (l .next) (l .inv .1) (sym e ∙ w .0 .taken) (omega (arith, w .1 .ensures, w .2 .left))))) (λ w. (omega arith, subst v (sym (w .1)) (seen-over s (a .occupant) (a .place) (a .tick) (l .row) (l .next) (l .inv .1) (sym e ∙ w .0 .left)))) (c .if1 .came)
 
--- src/lib.rt:100:1
 returns-2 : tie.Need-returns-2 Inv-loop μ-loop
 returns-2 c = let a = c .before .before .before .before .before .before .args in let s = a .image .now in let l = c .before .loop in let e = c .before .before .before .rows-of .ensures ∙ ap (rows s) (c .before .before .before .before .table-for .ensures) in let n : l .row ≡ rows s (tableFor (a .occupant)) = omega (arith, e, c .loop-test .left) in free s (a .occupant) (a .place) (a .tick) (l .next) (subst (λ (k : ℕ). Seen s (a .occupant) (a .place) (a .tick) k (l .next)) n (l .inv .1))
 

@@ -1,4 +1,4 @@
-use mathlib.Core.Path.{_≡_, refl, sym, ap, subst, _∙_}
+use mathlib.Core.Path.{refl}
 use borrow.Author.Tests.{lt-ltb, le-ltb}
 use Rattle.lanes.specs.Walks.{segmentOf}
 use borrow.Author.Needs.{needs}
@@ -8,16 +8,13 @@ use Rattle.lanes.proofs.segment_at.Reads as reads
 use Rattle.lanes.proofs.segment_at.Lts as lts
 use Rattle.lanes.proofs.least.Reads as least-reads
 
--- src/lib.rt:257:20
 least-requires : tie.Need-least-requires
 least-requires c κs = search needs
 
--- src/lib.rt:250:1
 returns : tie.Need-returns
 unfolding segmentOf
 returns c = rw (lt-ltb _ _ (c .before .if1 .taken), c .least .ensures) refl
 
--- src/lib.rt:250:1
 returns-2 : tie.Need-returns-2
 unfolding segmentOf
 returns-2 c = rw (le-ltb _ _ (c .if1 .left)) refl

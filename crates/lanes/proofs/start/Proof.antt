@@ -1,4 +1,4 @@
-use mathlib.Core.Path.{_≡_, refl, sym, ap, subst, _∙_}
+use mathlib.Core.Path.{refl}
 use Rattle.lanes.specs.Walks.{startWalk}
 use borrow.Author.Needs.{needs}
 use Rattle.lanes.proofs.start.Statement.{statement}
@@ -7,11 +7,9 @@ use Rattle.lanes.proofs.start.Reads as reads
 use Rattle.lanes.proofs.start.Lts as lts
 use Rattle.lanes.proofs.idle_stretch.Reads as idle-stretch-reads
 
--- src/lib.rt:282:9
 idle-stretch-requires : tie.Need-idle-stretch-requires
 idle-stretch-requires c κs = search needs
 
--- src/lib.rt:279:1
 returns : tie.Need-returns
 unfolding startWalk
 returns c = rw (c .idle-stretch .ensures) refl

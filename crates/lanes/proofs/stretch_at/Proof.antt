@@ -1,4 +1,3 @@
-use mathlib.Core.Path.{_≡_, refl, sym, ap, subst, _∙_}
 use Rattle.plan.proofs.Facts.{facts}
 use Rattle.lanes.proofs.Accepted.{sound}
 use Rattle.lanes.proofs.Stretches.{core-shows, link-shows}
@@ -11,23 +10,18 @@ use Rattle.lanes.proofs.core_stretch.Reads as core-stretch-reads
 use Rattle.lanes.proofs.link_stretch.Reads as link-stretch-reads
 use Rattle.tables.proofs.rows_of.Reads as rows-of-reads
 
--- src/lib.rt:221:9
 rows-of-requires : tie.Need-rows-of-requires
 rows-of-requires c κs = sound _ (c .before .pre .0) .inside .trailer
 
--- src/lib.rt:223:9
 core-stretch-requires : tie.Need-core-stretch-requires
 core-stretch-requires c κs = search needs
 
--- src/lib.rt:225:9
 link-stretch-requires : tie.Need-link-stretch-requires
 link-stretch-requires c κs = search needs
 
--- src/lib.rt:217:1
 returns : tie.Need-returns
 returns c = let a = c .before .before .before .before .args in let s = a .image .now in core-shows s (facts s (c .before .before .before .before .pre .0)) (a .lane) (a .tick) _ (rw (← c .before .before .rows-of .ensures) (c .before .if1 .taken)) (c .core-stretch .ensures)
 
--- src/lib.rt:217:1
 returns-2 : tie.Need-returns-2
 returns-2 c = let a = c .before .before .before .before .args in let s = a .image .now in let e = c .before .before .rows-of .ensures in link-shows s (facts s (c .before .before .before .before .pre .0)) (a .lane) (a .tick) _ (rw (← e) (c .before .if1 .left)) (rw (← e) (c .link-stretch .ensures))
 

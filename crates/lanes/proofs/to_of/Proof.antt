@@ -1,5 +1,5 @@
 use Prim.Native.Nat.{_<_}
-use mathlib.Core.Path.{_≡_, refl, sym, ap, subst, _∙_}
+use mathlib.Core.Path.{sym, ap, subst, _∙_}
 use Rattle.lanes.specs.declared.Occupant.{Occupant}
 use Rattle.plan.specs.Image.{rows}
 use Rattle.lanes.specs.Taken.{tableFor, toOf}
@@ -12,44 +12,35 @@ use Rattle.terms.proofs.frame_end.Reads as frame-end-reads
 use Rattle.terms.proofs.piece_end.Reads as piece-end-reads
 use Rattle.terms.proofs.window_end.Reads as window-end-reads
 
--- src/lib.rt:77:28
 enum-told : tie.Need-enum-told
 enum-told c = search needs
 
--- src/lib.rt:77:28
 piece-end-requires : tie.Need-piece-end-requires
 unfolding tableFor
 piece-end-requires c κs = let p = c .before .before .before .pre in let a = c .before .before .before .args in (p .0, subst (λ (o : Occupant). a .row < rows (a .image .now) (tableFor o)) (c .enum-told .given .1) (p .1))
 
--- src/lib.rt:78:29
 enum-told-2 : tie.Need-enum-told-2
 enum-told-2 c = search needs
 
--- src/lib.rt:78:29
 window-end-requires : tie.Need-window-end-requires
 unfolding tableFor
 window-end-requires c κs = let p = c .before .before .before .pre in let a = c .before .before .before .args in (p .0, subst (λ (o : Occupant). a .row < rows (a .image .now) (tableFor o)) (c .enum-told2 .given .1) (p .1))
 
--- src/lib.rt:79:28
 enum-told-3 : tie.Need-enum-told-3
 enum-told-3 c = search needs
 
--- src/lib.rt:79:28
 frame-end-requires : tie.Need-frame-end-requires
 unfolding tableFor
 frame-end-requires c κs = let p = c .before .before .before .pre in let a = c .before .before .before .args in (p .0, subst (λ (o : Occupant). a .row < rows (a .image .now) (tableFor o)) (c .enum-told3 .given .1) (p .1))
 
--- src/lib.rt:72:1
 returns : tie.Need-returns
 unfolding toOf
 returns c = let a = c .before .before .before .before .args in c .piece-end .ensures ∙ sym (ap (λ (o : Occupant). toOf (a .image .now) o (a .row)) (c .before .enum-told .given .1))
 
--- src/lib.rt:72:1
 returns-2 : tie.Need-returns-2
 unfolding toOf
 returns-2 c = let a = c .before .before .before .before .args in c .window-end .ensures ∙ sym (ap (λ (o : Occupant). toOf (a .image .now) o (a .row)) (c .before .enum-told2 .given .1))
 
--- src/lib.rt:72:1
 returns-3 : tie.Need-returns-3
 unfolding toOf
 returns-3 c = let a = c .before .before .before .before .args in c .frame-end .ensures ∙ sym (ap (λ (o : Occupant). toOf (a .image .now) o (a .row)) (c .before .enum-told3 .given .1))
