@@ -1,0 +1,25 @@
+use mathlib.Core.Path.{refl}
+use native.Mathlib.Omega.{arith}
+use Rattle.lanes.specs.Taken.{tableFor}
+use Rattle.lanes.specs.Walks.{frameStretch}
+use Rattle.lanes.proofs.Accepted.{sound, frame-small}
+use Rattle.lanes.proofs.frame_stretch.Statement.{statement}
+use Rattle.lanes.proofs.frame_stretch.Tie as tie
+use Rattle.lanes.proofs.frame_stretch.Reads as reads
+use Rattle.lanes.proofs.frame_stretch.Lts as lts
+use Rattle.terms.proofs.frame_end.Reads as frame-end-reads
+
+frame-end-requires : tie.Need-frame-end-requires
+unfolding tableFor
+frame-end-requires c κs = let p = c .before .pre in (sound _ (p .0), p .1)
+
+cast-t4 : tie.Need-cast-t4
+unfolding tableFor
+cast-t4 c = let p = c .before .before .pre in let a = c .before .before .args in omega (arith, c .frame-end .ensures, frame-small (a .image .now) (p .0) (a .frame) (p .1))
+
+returns : tie.Need-returns
+unfolding frameStretch
+returns c = rw (c .frame-end .ensures) refl
+
+pub frame-stretch-spec : {M : Type 1} → statement M
+frame-stretch-spec = tie.close (tie.spec frame-end-requires cast-t4 returns)

@@ -1,0 +1,45 @@
+use mathlib.Core.Path.{subst}
+use Rattle.lanes.specs.declared.Occupant.the-variants.{Frame}
+use Rattle.lanes.specs.Taken.{Nearest}
+use Rattle.lanes.proofs.Stretches.{frame-sends, link-idles}
+use borrow.Author.Needs.{needs}
+use Rattle.lanes.proofs.link_stretch.Statement.{statement}
+use Rattle.lanes.proofs.link_stretch.Tie as tie
+use Rattle.lanes.proofs.link_stretch.Reads as reads
+use Rattle.lanes.proofs.link_stretch.Lts as lts
+use Rattle.lanes.proofs.frame_stretch.Reads as frame-stretch-reads
+use Rattle.lanes.proofs.idle_stretch.Reads as idle-stretch-reads
+use Rattle.lanes.proofs.nearest.Reads as nearest-reads
+
+nearest-requires : tie.Need-nearest-requires
+nearest-requires c κs = search needs
+
+enum-known-frame : tie.Need-enum-known-frame
+enum-known-frame c = search needs
+
+frame-stretch-requires : tie.Need-frame-stretch-requires
+frame-stretch-requires c κs = let a = c .before .before .before .before .before .args in let s = a .image .now in let h = subst (Nearest s Frame (a .link) (a .tick)) (c .before .frame .given .1) (c .before .before .before .nearest .ensures) in (c .before .before .before .before .before .pre .0, h .row)
+
+enum-known-free : tie.Need-enum-known-free
+enum-known-free c = search needs
+
+idle-stretch-requires : tie.Need-idle-stretch-requires
+idle-stretch-requires c κs = search needs
+
+returns : tie.Need-returns
+returns c = let a = c .before .before .before .before .before .before .args in let s = a .image .now in let h = subst (Nearest s Frame (a .link) (a .tick)) (c .before .before .frame .given .1) (c .before .before .before .before .nearest .ensures) in rw (c .frame-stretch .ensures) (frame-sends s (a .link) (a .tick) _ h)
+
+returns-2 : tie.Need-returns-2
+returns-2 c = let a = c .before .before .before .before .before .before .args in let s = a .image .now in let h = subst (Nearest s Frame (a .link) (a .tick)) (c .before .before .free .given .1) (c .before .before .before .before .nearest .ensures) in rw (c .idle-stretch .ensures) (link-idles s (a .link) (a .tick) _ h)
+
+pub link-stretch-spec : {M : Type 1} → statement M
+link-stretch-spec =
+    tie.close
+    (tie.spec
+    nearest-requires
+    enum-known-frame
+    frame-stretch-requires
+    enum-known-free
+    idle-stretch-requires
+    returns
+    returns-2)

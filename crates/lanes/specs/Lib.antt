@@ -1,0 +1,4 @@
+pub mod Taken
+pub mod Walks
+pub mod Words
+pub mod LookUp
