@@ -1,0 +1,73 @@
+use Prim.Native.Nat.{_-_}
+use mathlib.Core.Path.{_≡_, refl, sym, ap, subst, _∙_}
+use native.Mathlib.Omega.{arith}
+use lib.ListN.{length}
+use Rattle.reaperdecade.proofs.Records.{Moved, moved-none, here-fits, moved-more, moved-all}
+use Rattle.reaperdecade.proofs.move_all.Statement.{statement}
+use Rattle.reaperdecade.proofs.move_all.Tie as tie
+use Rattle.reaperdecade.proofs.move_all.Reads as reads
+use Rattle.reaperdecade.proofs.move_all.Lts as lts
+use Rattle.reaperdecade.proofs.move_record.Reads as move-record-reads
+
+abbrev Inv-loop : tie.InvT-loop
+Inv-loop words states₀ i₀ states i = Moved words states₀ i states
+
+abbrev μ-loop : tie.MeasureT-loop
+μ-loop words states₀ i₀ states i = length states₀ - i
+
+-- src/lib.rt:176:5
+loop-holds : tie.Need-loop-holds Inv-loop μ-loop
+loop-holds c = ?
+
+-- src/lib.rt:177:19
+add-end : tie.Need-add-end Inv-loop μ-loop
+add-end c = ?
+
+-- src/lib.rt:178:28
+sub-move-record : tie.Need-sub-move-record Inv-loop μ-loop
+sub-move-record c = ?
+
+-- src/lib.rt:178:28
+part-move-record-start : tie.Need-part-move-record-start Inv-loop μ-loop
+part-move-record-start c = ?
+
+-- src/lib.rt:178:28
+part-move-record-end : tie.Need-part-move-record-end Inv-loop μ-loop
+part-move-record-end c = ?
+
+-- src/lib.rt:178:9
+move-record-requires : tie.Need-move-record-requires Inv-loop μ-loop
+move-record-requires c κs = ?
+
+-- src/lib.rt:176:5
+loop-less : tie.Need-loop-less Inv-loop μ-loop
+loop-less c = ?
+
+-- src/lib.rt:176:5
+loop-again : tie.Need-loop-again Inv-loop μ-loop
+loop-again c = ?
+
+-- src/lib.rt:171:1
+same-length : tie.Need-same-length Inv-loop μ-loop
+same-length c = ?
+
+-- src/lib.rt:171:1
+returns : tie.Need-returns Inv-loop μ-loop
+returns c = ?
+
+pub move-all-spec : {M : Type 1} → statement M
+move-all-spec =
+    tie.close
+    (tie.spec
+    Inv-loop
+    μ-loop
+    loop-holds
+    add-end
+    sub-move-record
+    part-move-record-start
+    part-move-record-end
+    move-record-requires
+    loop-less
+    loop-again
+    same-length
+    returns)

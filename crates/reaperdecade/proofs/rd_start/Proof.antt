@@ -1,0 +1,31 @@
+use borrow.Author.Needs.{needs}
+use Rattle.reaperdecade.proofs.rd_start.Statement.{statement}
+use Rattle.reaperdecade.proofs.rd_start.Tie as tie
+use Rattle.reaperdecade.proofs.rd_start.Reads as reads
+use Rattle.reaperdecade.proofs.rd_start.Lts as lts
+use Rattle.plan.proofs.LaneState.start.Reads as start-reads
+use Rattle.reaperdecade.proofs.put_state.Reads as put-state-reads
+
+-- src/lib.rt:112:9
+returns : tie.Need-returns
+returns c = ?
+
+-- src/lib.rt:114:22
+start-requires : tie.Need-start-requires
+start-requires c κs = search needs
+
+-- src/lib.rt:114:5
+put-state-requires : tie.Need-put-state-requires
+put-state-requires c κs = search needs
+
+-- src/lib.rt:107:1
+same-length : tie.Need-same-length
+same-length c = search needs
+
+-- src/lib.rt:107:1
+returns-2 : tie.Need-returns-2
+returns-2 c = ?
+
+pub rd-start-spec : {M : Type 1} → statement M
+rd-start-spec =
+    tie.close (tie.spec returns start-requires put-state-requires same-length returns-2)

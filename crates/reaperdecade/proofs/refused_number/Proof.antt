@@ -1,0 +1,59 @@
+use Prim.Native.Nat.{_+_, _-_, _≤_}
+use mathlib.Core.Path.{_≡_, refl, sym, ap, _∙_}
+use native.Mathlib.Omega.{arith}
+use lib.ListN.{length, drop}
+use Rattle.plan.specs.Boundary.{stepAllNumber}
+use Rattle.reaperdecade.proofs.Records.{refused-at, fits-at, all-fit}
+use Rattle.reaperdecade.proofs.refused_number.Statement.{statement}
+use Rattle.reaperdecade.proofs.refused_number.Tie as tie
+use Rattle.reaperdecade.proofs.refused_number.Reads as reads
+use Rattle.reaperdecade.proofs.refused_number.Lts as lts
+use Rattle.reaperdecade.proofs.number_at.Reads as number-at-reads
+
+abbrev Inv-loop : tie.InvT-loop
+Inv-loop words states i₀ i = (i ≤ length states) × (stepAllNumber words states ≡ stepAllNumber words (drop i states))
+
+abbrev μ-loop : tie.MeasureT-loop
+μ-loop words states i₀ i = length states - i
+
+-- src/lib.rt:151:5
+loop-holds : tie.Need-loop-holds Inv-loop μ-loop
+loop-holds c = ?
+
+-- src/lib.rt:152:13
+number-at-requires : tie.Need-number-at-requires Inv-loop μ-loop
+number-at-requires c κs = ?
+
+-- src/lib.rt:154:13
+returns : tie.Need-returns Inv-loop μ-loop
+returns c = ?
+
+-- src/lib.rt:156:9
+add-i : tie.Need-add-i Inv-loop μ-loop
+add-i c = ?
+
+-- src/lib.rt:151:5
+loop-less : tie.Need-loop-less Inv-loop μ-loop
+loop-less c = ?
+
+-- src/lib.rt:151:5
+loop-again : tie.Need-loop-again Inv-loop μ-loop
+loop-again c = ?
+
+-- src/lib.rt:147:1
+returns-2 : tie.Need-returns-2 Inv-loop μ-loop
+returns-2 c = ?
+
+pub refused-number-spec : {M : Type 1} → statement M
+refused-number-spec =
+    tie.close
+    (tie.spec
+    Inv-loop
+    μ-loop
+    loop-holds
+    number-at-requires
+    returns
+    add-i
+    loop-less
+    loop-again
+    returns-2)

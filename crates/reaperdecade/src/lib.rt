@@ -1,0 +1,195 @@
+// The C boundary (paper 01, "What the product covers"): what the load tool calls, over numbers and bytes. Any bytes are taken;
+// include/reaperdecade.h declares the functions for C.
+ghost use mathlib.Core.Path.{_≡_};
+ghost use Prim.Native.Nat.{_+_, _≤_};
+ghost use lib.ListN.{length, getD, take, drop};
+ghost use lib.Seq.{sets};
+ghost use Rattle.plan.specs.Dispatch.{step};
+ghost use Rattle.plan.specs.Boundary.{wordsOf, bytesOf, stateOf, stateBytes, startNumber, startBytes, stepNumber, stepBytes, stepAllNumber, stepAllBytes};
+ghost use Rattle.steps.specs.Lookups.{lookup};
+use plan::LaneState;
+use plan::Stepped;
+use steps::Lookup;
+use steps::decide;
+use tables::word;
+
+// How many bytes a state takes.
+const STATE: usize = 28;
+
+// The word at an index, or 0 past the end. A part of a word at the end does not count.
+fn word_at(words: &[u8], i: usize) -> u32
+    ensures { λ r. ⌜ r ≡ getD (wordsOf (now (words .entry))) i 0 ⌝ }
+{
+    if i < words.len() / 4 {
+        word(words, 4 * i)
+    } else {
+        0
+    }
+}
+
+// What a step of the state looks up: six words.
+fn look_up(words: &[u8], state: LaneState) -> Lookup
+    ensures { λ r. ⌜ r ≡ lookup (wordsOf (now (words .entry))) state ⌝ }
+{
+    let first = state.first as usize;
+    let at = first + 2 + 3 * state.entry as usize;
+    let ticks = word_at(words, first);
+    let entries = word_at(words, first + 1);
+    let begin = word_at(words, at);
+    let kind = word_at(words, at + 1);
+    let row = word_at(words, at + 2);
+    let next = word_at(words, at + 3);
+    let inside = first + 2 + 3 * entries as usize <= words.len() / 4;
+    Lookup {
+        inside: inside,
+        ticks: ticks,
+        entries: entries,
+        begin: begin,
+        kind: kind,
+        row: row,
+        next: next,
+    }
+}
+
+// A step of a state by value, over words as bytes.
+fn step_words(words: &[u8], state: LaneState) -> Stepped
+    ensures { λ r. ⌜ r ≡ step (wordsOf (now (words .entry))) state ⌝ }
+{
+    decide(look_up(words, state), state)
+}
+
+// The state that a record of 28 bytes holds.
+fn state_of(bytes: &[u8]) -> LaneState
+    requires { ⌜ length (now bytes) ≡ 28 ⌝ }
+    ensures { λ r. ⌜ r ≡ stateOf (now (bytes .entry)) ⌝ }
+{
+    let low = word(bytes, 0) as u64;
+    let high = word(bytes, 4) as u64;
+    LaneState {
+        cycle: low + 4294967296 * high,
+        tick: word(bytes, 8),
+        entry: word(bytes, 12),
+        first: word(bytes, 16),
+        kind: word(bytes, 20),
+        row: word(bytes, 24),
+    }
+}
+
+// Writes a word from byte i on, the lowest byte first.
+fn put_word(bytes: &mut [u8], i: usize, x: u32)
+    requires { ⌜ i + 4 ≤ length (now bytes) ⌝ }
+    ensures { λ _. ⌜ now (bytes .exit) ≡ sets (now (bytes .entry)) i (bytesOf 4 x) ⌝ }
+{
+    bytes[i] = (x % 256) as u8;
+    bytes[i + 1] = (x / 256 % 256) as u8;
+    bytes[i + 2] = (x / 65536 % 256) as u8;
+    bytes[i + 3] = (x / 16777216 % 256) as u8;
+}
+
+// Writes a state into a record of 28 bytes.
+fn put_state(bytes: &mut [u8], state: LaneState)
+    requires { ⌜ length (now bytes) ≡ 28 ⌝ }
+    ensures { λ _. ⌜ now (bytes .exit) ≡ stateBytes state ⌝ }
+{
+    let low = (state.cycle % 4294967296) as u32;
+    let high = (state.cycle / 4294967296) as u32;
+    put_word(bytes, 0, low);
+    put_word(bytes, 4, high);
+    put_word(bytes, 8, state.tick);
+    put_word(bytes, 12, state.entry);
+    put_word(bytes, 16, state.first);
+    put_word(bytes, 20, state.kind);
+    put_word(bytes, 24, state.row);
+}
+
+// Starts a lane: tick 0 of a cycle, with its table at a first word. Gives 0, or 27 for a state of another length than 28,
+// which stays as it was.
+#[no_mangle]
+pub extern "C" fn rd_start(cycle: u64, first: u32, state: &mut [u8]) -> u32
+    ensures { λ r. ⌜ (r ≡ startNumber (now (state .entry))) × (now (state .exit) ≡ startBytes cycle first (now (state .entry))) ⌝ }
+{
+    if state.len() != STATE {
+        return 27;
+    }
+    put_state(state, LaneState::start(cycle, first));
+    0
+}
+
+// Steps one lane. Gives 0, or the number of a refusal, 27 or 28, which changes no byte.
+#[no_mangle]
+pub extern "C" fn rd_step(words: &[u8], state: &mut [u8]) -> u32
+    ensures { λ r. ⌜ (r ≡ stepNumber (now (words .entry)) (now (state .entry))) × (now (state .exit) ≡ stepBytes (now (words .entry)) (now (state .entry))) ⌝ }
+{
+    if state.len() != STATE {
+        return 27;
+    }
+    let stepped = step_words(words, state_of(state));
+    if stepped.number != 0 {
+        return stepped.number;
+    }
+    put_state(state, stepped.state);
+    0
+}
+
+// The number of a step of the record that begins at byte i.
+fn number_at(words: &[u8], states: &[u8], i: usize) -> u32
+    requires { ⌜ i ≤ length (now states) ⌝ }
+    ensures { λ r. ⌜ r ≡ stepNumber (now (words .entry)) (take 28 (drop i (now (states .entry)))) ⌝ }
+{
+    if states.len() - i < STATE {
+        return 27;
+    }
+    let end = i + STATE;
+    step_words(words, state_of(&states[i..end])).number
+}
+
+// The number of the lowest record that is refused, or 0.
+fn refused_number(words: &[u8], states: &[u8]) -> u32
+    ensures { λ r. ⌜ r ≡ stepAllNumber (now (words .entry)) (now (states .entry)) ⌝ }
+{
+    let mut i = 0;
+    while i < states.len() {
+        let number = number_at(words, states, i);
+        if number != 0 {
+            return number;
+        }
+        i += STATE;
+    }
+    0
+}
+
+// Moves one record that is not refused.
+fn move_record(words: &[u8], bytes: &mut [u8])
+    requires { ⌜ (length (now bytes) ≡ 28) × (stepNumber (now words) (now bytes) ≡ 0) ⌝ }
+    ensures { λ _. ⌜ now (bytes .exit) ≡ stepBytes (now (words .entry)) (now (bytes .entry)) ⌝ }
+{
+    let stepped = step_words(words, state_of(bytes));
+    put_state(bytes, stepped.state);
+}
+
+// Moves all records, none of which is refused.
+fn move_all(words: &[u8], states: &mut [u8])
+    requires { ⌜ stepAllNumber (now words) (now states) ≡ 0 ⌝ }
+    ensures { λ _. ⌜ now (states .exit) ≡ stepAllBytes (now (words .entry)) (now (states .entry)) ⌝ }
+{
+    let mut i = 0;
+    while i < states.len() {
+        let end = i + STATE;
+        move_record(words, &mut states[i..end]);
+        i = end;
+    }
+}
+
+// Steps all lanes: every record is tried, and then every record moves. Gives 0, also for no records, or the number of the
+// lowest record that is refused, and then no byte changes.
+#[no_mangle]
+pub extern "C" fn rd_step_all(words: &[u8], states: &mut [u8]) -> u32
+    ensures { λ r. ⌜ (r ≡ stepAllNumber (now (words .entry)) (now (states .entry))) × (now (states .exit) ≡ stepAllBytes (now (words .entry)) (now (states .entry))) ⌝ }
+{
+    let number = refused_number(words, states);
+    if number != 0 {
+        return number;
+    }
+    move_all(words, states);
+    0
+}
