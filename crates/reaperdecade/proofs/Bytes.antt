@@ -86,19 +86,19 @@ module _ (st : LaneState) where
       (l : List ℕ)
       → length l ≡ 28
       → sets
-        (sets
-        (sets
-        (sets
-        (sets (sets (sets l 0 (bytesOf 4 (st .cycle % 2 ^ 32))) 4 (bytesOf 4 (st .cycle / 2 ^ 32))) 8 (bytesOf 4 (st .tick)))
-        12
-        (bytesOf 4 (st .entry)))
-        16
-        (bytesOf 4 (st .first)))
-        20
-        (bytesOf 4 (st .kind)))
-        24
-        (bytesOf 4 (st .row))
-        ≡ stateBytes st
+      (sets
+      (sets
+      (sets
+      (sets (sets (sets l 0 (bytesOf 4 (st .cycle % 2 ^ 32))) 4 (bytesOf 4 (st .cycle / 2 ^ 32))) 8 (bytesOf 4 (st .tick)))
+      12
+      (bytesOf 4 (st .entry)))
+      16
+      (bytesOf 4 (st .first)))
+      20
+      (bytesOf 4 (st .kind)))
+      24
+      (bytesOf 4 (st .row))
+      ≡ stateBytes st
   unfolding stateBytes
   state-stored l e =
       let a : List ℕ = bytesOf 4 (st .cycle % 2 ^ 32) in

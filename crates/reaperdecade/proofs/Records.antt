@@ -9,30 +9,49 @@ use native.Mathlib.Omega.{arith}
 use lib.Dec.{eqb}
 use borrow.Author.Tests.{eq-eqb, ne-eqb, eqb-true}
 use lib.ListN.{length, take, drop, length-append, length-take, length-drop, drop-of-length-le}
+use borrow.Rule.Slice.PartMut.{putMid}
 use lib.Seq.{drop-drop, take-all, take-at, drop-at, length-take-le}
-use Rattle.plan.specs.Dispatch.{step}
-use Rattle.plan.specs.Boundary.{wordsOf, stateOf, stateBytes, stepNumber, stepBytes, firstRecords, recordsOf, refusedNumber, stepAllNumber, stepAllBytes}
+use Rattle.plan.specs.Dispatch.{step, startState}
+use Rattle.plan.specs.Boundary.{wordsOf, stateOf, stateBytes, startNumber, startBytes, stepNumber, stepBytes, firstRecords, recordsOf, refusedNumber, stepAllNumber, stepAllBytes}
+use Rattle.plan.specs.declared.LaneState.{LaneState}
+use Rattle.plan.specs.declared.Stepped.{Stepped}
 use Rattle.reaperdecade.proofs.Bytes.{state-length}
 
 -- ---- one record
+
+module _ (cycle word : ℕ) (b : List ℕ) where
+  pub not-started : length b ≢ 28 → (27 ≡ startNumber b) × (b ≡ startBytes cycle word b)
+  unfolding startNumber startBytes
+  not-started n = let e = ne-eqb (length b) 28 n in (rw e refl, rw e refl)
+
+  pub started : length b ≡ 28 → (0 ≡ startNumber b) × (stateBytes (startState cycle word) ≡ startBytes cycle word b)
+  unfolding startNumber startBytes
+  started n = let e = eq-eqb (length b) 28 n in (rw e refl, rw e refl)
 
 module _ (ws b : List ℕ) where
   pub other-length : length b ≢ 28 → (27 ≡ stepNumber ws b) × (b ≡ stepBytes ws b)
   unfolding stepNumber stepBytes
   other-length n = let e = ne-eqb (length b) 28 n in (rw e refl, rw e refl)
 
-  module _ (n : length b ≡ 28) where
-    pub number-of : step (wordsOf ws) (stateOf b) .number ≡ stepNumber ws b
+  -- the state is read, and stepped by value
+  module _ (n : length b ≡ 28) (st : LaneState) (r : Stepped) (is : st ≡ stateOf b) (said : r ≡ step (wordsOf ws) st) where
+    stepped : r ≡ step (wordsOf ws) (stateOf b)
+    stepped = said ∙ ap (step (wordsOf ws)) is
+
+    pub number-said : r .number ≡ stepNumber ws b
     unfolding stepNumber
-    number-of = rw (eq-eqb (length b) 28 n) refl
+    number-said = rw (eq-eqb (length b) 28 n) (ap (λ (x : Stepped). x .number) stepped)
 
-    pub refused-bytes : stepNumber ws b ≢ 0 → b ≡ stepBytes ws b
+    pub refused-stays : r .number ≢ 0 → b ≡ stepBytes ws b
     unfolding stepBytes
-    refused-bytes h = rw (ne-eqb (stepNumber ws b) 0 h) refl
+    refused-stays h = rw (ne-eqb (stepNumber ws b) 0 (λ z. h (number-said ∙ z))) refl
 
-  pub moved-bytes : stepNumber ws b ≡ 0 → stateBytes (step (wordsOf ws) (stateOf b) .state) ≡ stepBytes ws b
+  moved-bytes : stepNumber ws b ≡ 0 → stateBytes (step (wordsOf ws) (stateOf b) .state) ≡ stepBytes ws b
   unfolding stepBytes
   moved-bytes h = rw (eq-eqb (stepNumber ws b) 0 h) refl
+
+  pub moved-said : stepNumber ws b ≡ 0 → (st : LaneState) (r : Stepped) → st ≡ stateOf b → r ≡ step (wordsOf ws) st → stateBytes (r .state) ≡ stepBytes ws b
+  moved-said h st r is said = ap (λ (x : Stepped). stateBytes (x .state)) (said ∙ ap (step (wordsOf ws)) is) ∙ moved-bytes h
 
   -- a record that is not refused is whole, and stays so
   pub whole : stepNumber ws b ≡ 0 → length b ≡ 28
@@ -89,9 +108,10 @@ module _ (ws b : List ℕ) (i : ℕ) (before : stepAllNumber ws b ≡ stepAllNum
   pub fits-at : i < length b → stepNumber ws (take 28 (drop i b)) ≡ 0 → (i + 28 ≤ length b) × (stepAllNumber ws b ≡ stepAllNumber ws (drop (i + 28) b))
   fits-at l h =
       let k : 0 < length (drop i b) = rw (length-drop i b) (omega arith) in
-      let n = whole ws (take 28 (drop i b)) h in
-      (omega (arith, length-take 28 (drop i b), length-drop i b),
-      before ∙ next ws (drop i b) k ∙ (rw (eq-eqb (stepNumber ws (take 28 (drop i b))) 0 h) (ap (stepAllNumber ws) (drop-drop 28 i b))))
+      let n = whole ws (take 28 (drop i b)) h in (
+        omega (arith, length-take 28 (drop i b), length-drop i b),
+        before ∙ next ws (drop i b) k ∙ (rw (eq-eqb (stepNumber ws (take 28 (drop i b))) 0 h) (ap (stepAllNumber ws) (drop-drop 28 i b))),
+      )
 
   pub all-fit : length b ≤ i → 0 ≡ stepAllNumber ws b
   all-fit l = sym (before ∙ none-left ws (drop i b) (rw (length-drop i b) (omega arith)))
@@ -157,6 +177,14 @@ module _ (ws b : List ℕ) where
               ∙ sym (moves-cons ws (drop i b) k))
               ∙ m .done;
         }
+
+    -- the part of k bytes from byte i on is lent, and comes back moved
+    pub moved-part : (k : ℕ) (r : List ℕ) → k ≡ 28 → r ≡ stepBytes ws (take k (drop i now)) → i < length b → Moved ws b (i + 28) (putMid i k now r)
+    moved-part k r e q l =
+        subst
+        (λ (x : List ℕ). Moved ws b (i + 28) x)
+        (append-assoc (take i now) (stepBytes ws (take 28 (drop i now))) (drop (i + 28) now) ∙ (rw (← drop-drop 28 i now, q, e) refl))
+        (moved-more l)
 
     pub moved-all : stepAllNumber ws b ≡ 0 → length b ≤ i → now ≡ stepAllBytes ws b
     unfolding stepAllBytes

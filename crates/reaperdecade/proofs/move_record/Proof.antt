@@ -1,3 +1,5 @@
+use mathlib.Core.Path.{_∙_}
+use Rattle.reaperdecade.proofs.Records.{moved-said}
 use borrow.Author.Needs.{needs}
 use Rattle.reaperdecade.proofs.move_record.Statement.{statement}
 use Rattle.reaperdecade.proofs.move_record.Tie as tie
@@ -25,7 +27,7 @@ same-length c = search needs
 
 -- src/lib.rt:162:1
 returns : tie.Need-returns
-returns c = ?
+returns c = let a = c .before .before .before .before .before .before .before .before .before .args in let e = c .before .before .before .before .before .state-of in let d = c .before .before .before .before .step-words in c .before .before .put-state .ensures ∙ moved-said (a .words .now) (a .bytes .now) (c .before .before .before .before .before .before .before .before .before .pre .1) (e .result) (d .result) (e .ensures) (d .ensures)
 
 pub move-record-spec : {M : Type 1} → statement M
 move-record-spec =

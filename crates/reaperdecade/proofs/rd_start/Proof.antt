@@ -1,3 +1,6 @@
+use mathlib.Core.Path.{ap, _∙_}
+use Rattle.plan.specs.Boundary.{stateBytes}
+use Rattle.reaperdecade.proofs.Records.{not-started, started}
 use borrow.Author.Needs.{needs}
 use Rattle.reaperdecade.proofs.rd_start.Statement.{statement}
 use Rattle.reaperdecade.proofs.rd_start.Tie as tie
@@ -8,7 +11,7 @@ use Rattle.reaperdecade.proofs.put_state.Reads as put-state-reads
 
 -- src/lib.rt:112:9
 returns : tie.Need-returns
-returns c = ?
+returns c = let a = c .before .before .args in not-started (a .cycle) (a .first) (a .state .now) (c .if1 .taken)
 
 -- src/lib.rt:114:22
 start-requires : tie.Need-start-requires
@@ -24,7 +27,7 @@ same-length c = search needs
 
 -- src/lib.rt:107:1
 returns-2 : tie.Need-returns-2
-returns-2 c = ?
+returns-2 c = let a = c .before .before .before .before .before .before .before .args in let h = started (a .cycle) (a .first) (a .state .now) (c .before .before .before .before .before .if1 .left) in (h .0, c .before .before .put-state .ensures ∙ ap stateBytes (c .before .before .before .start .ensures) ∙ h .1)
 
 pub rd-start-spec : {M : Type 1} → statement M
 rd-start-spec =

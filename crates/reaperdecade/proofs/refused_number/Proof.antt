@@ -18,31 +18,31 @@ abbrev μ-loop : tie.MeasureT-loop
 
 -- src/lib.rt:151:5
 loop-holds : tie.Need-loop-holds Inv-loop μ-loop
-loop-holds c = ?
+loop-holds c = (omega arith, refl)
 
 -- src/lib.rt:152:13
 number-at-requires : tie.Need-number-at-requires Inv-loop μ-loop
-number-at-requires c κs = ?
+number-at-requires c κs = omega arith
 
 -- src/lib.rt:154:13
 returns : tie.Need-returns Inv-loop μ-loop
-returns c = ?
+returns c = let l = c .before .before .before .loop in let a = c .before .before .before .before .before .before .args in let w = a .words .now in let s = a .states .now in let e = c .before .number-at .ensures in e ∙ refused-at w s (l .i) (l .inv .1) (c .before .before .loop-test .taken) (λ z. c .if1 .taken (e ∙ z))
 
 -- src/lib.rt:156:9
 add-i : tie.Need-add-i Inv-loop μ-loop
-add-i c = ?
+add-i c = omega arith
 
 -- src/lib.rt:151:5
 loop-less : tie.Need-loop-less Inv-loop μ-loop
-loop-less c = ?
+loop-less c = omega arith
 
 -- src/lib.rt:151:5
 loop-again : tie.Need-loop-again Inv-loop μ-loop
-loop-again c = ?
+loop-again c = let l = c .before .before .before .loop in let a = c .before .before .before .before .before .before .args in let w = a .words .now in let s = a .states .now in let e = c .before .number-at .ensures in let h = fits-at w s (l .i) (l .inv .1) (c .before .before .loop-test .taken) (sym e ∙ c .if1 .left) in (h .0, h .1)
 
 -- src/lib.rt:147:1
 returns-2 : tie.Need-returns-2 Inv-loop μ-loop
-returns-2 c = ?
+returns-2 c = let l = c .before .loop in let a = c .before .before .before .before .args in all-fit (a .words .now) (a .states .now) (l .i) (l .inv .1) (c .loop-test .left)
 
 pub refused-number-spec : {M : Type 1} → statement M
 refused-number-spec =
