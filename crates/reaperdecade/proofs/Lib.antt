@@ -1,3 +1,4 @@
 pub mod Words
 pub mod Bytes
+pub mod Entries
 pub mod Records

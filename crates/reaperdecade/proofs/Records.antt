@@ -15,7 +15,12 @@ use Rattle.plan.specs.Dispatch.{step, startState}
 use Rattle.plan.specs.Boundary.{wordsOf, stateOf, stateBytes, startNumber, startBytes, stepNumber, stepBytes, firstRecords, recordsOf, refusedNumber, stepAllNumber, stepAllBytes}
 use Rattle.plan.specs.declared.LaneState.{LaneState}
 use Rattle.plan.specs.declared.Stepped.{Stepped}
+use Rattle.steps.specs.declared.Lookup.{Lookup}
+use Rattle.steps.specs.Lookups.{lookup, decided}
+use Rattle.steps.proofs.Reading.{step-read}
+use Rattle.reaperdecade.specs.Entries.{hasEntry}
 use Rattle.reaperdecade.proofs.Bytes.{state-length}
+use Rattle.reaperdecade.proofs.Entries.{no-entry, has-entry}
 
 -- ---- one record
 
@@ -33,25 +38,17 @@ module _ (ws b : List ℕ) where
   unfolding stepNumber stepBytes
   other-length n = let e = ne-eqb (length b) 28 n in (rw e refl, rw e refl)
 
-  -- the state is read, and stepped by value
-  module _ (n : length b ≡ 28) (st : LaneState) (r : Stepped) (is : st ≡ stateOf b) (said : r ≡ step (wordsOf ws) st) where
-    stepped : r ≡ step (wordsOf ws) (stateOf b)
-    stepped = said ∙ ap (step (wordsOf ws)) is
+  pub refused-stays : stepNumber ws b ≢ 0 → b ≡ stepBytes ws b
+  unfolding stepBytes
+  refused-stays h = rw (ne-eqb (stepNumber ws b) 0 h) refl
 
-    pub number-said : r .number ≡ stepNumber ws b
-    unfolding stepNumber
-    number-said = rw (eq-eqb (length b) 28 n) (ap (λ (x : Stepped). x .number) stepped)
-
-    pub refused-stays : r .number ≢ 0 → b ≡ stepBytes ws b
-    unfolding stepBytes
-    refused-stays h = rw (ne-eqb (stepNumber ws b) 0 (λ z. h (number-said ∙ z))) refl
+  whole-number : length b ≡ 28 → step (wordsOf ws) (stateOf b) .number ≡ stepNumber ws b
+  unfolding stepNumber
+  whole-number n = rw (eq-eqb (length b) 28 n) refl
 
   moved-bytes : stepNumber ws b ≡ 0 → stateBytes (step (wordsOf ws) (stateOf b) .state) ≡ stepBytes ws b
   unfolding stepBytes
   moved-bytes h = rw (eq-eqb (stepNumber ws b) 0 h) refl
-
-  pub moved-said : stepNumber ws b ≡ 0 → (st : LaneState) (r : Stepped) → st ≡ stateOf b → r ≡ step (wordsOf ws) st → stateBytes (r .state) ≡ stepBytes ws b
-  moved-said h st r is said = ap (λ (x : Stepped). stateBytes (x .state)) (said ∙ ap (step (wordsOf ws)) is) ∙ moved-bytes h
 
   -- a record that is not refused is whole, and stays so
   pub whole : stepNumber ws b ≡ 0 → length b ≡ 28
@@ -64,6 +61,26 @@ module _ (ws b : List ℕ) where
 
   pub moved-length : stepNumber ws b ≡ 0 → length (stepBytes ws b) ≡ 28
   moved-length h = sym (ap length (moved-bytes h)) ∙ state-length (step (wordsOf ws) (stateOf b) .state)
+
+-- ---- one record, whose state is read
+
+module _ (ws b : List ℕ) (st : LaneState) (is : st ≡ stateOf b) where
+  pub no-entry-said : length b ≡ 28 → hasEntry (wordsOf ws) st ≡ false → 27 ≡ stepNumber ws b
+  no-entry-said n h = sym (sym (whole-number ws b n) ∙ ap (λ (x : LaneState). step (wordsOf ws) x .number) (sym is) ∙ no-entry (wordsOf ws) st h)
+
+  pub entry-said : stepNumber ws b ≡ 0 → hasEntry (wordsOf ws) st ≡ true
+  entry-said h = has-entry (wordsOf ws) st (ap (λ (x : LaneState). step (wordsOf ws) x .number) is ∙ whole-number ws b (whole ws b h) ∙ h)
+
+  -- its numbers are looked up, and the step is decided
+  module _ (l : Lookup) (r : Stepped) (found : l ≡ lookup (wordsOf ws) st) (said : r ≡ decided l st) where
+    stepped : r ≡ step (wordsOf ws) (stateOf b)
+    stepped = said ∙ ap (λ (x : Lookup). decided x st) found ∙ step-read (wordsOf ws) st ∙ ap (step (wordsOf ws)) is
+
+    pub number-said : length b ≡ 28 → r .number ≡ stepNumber ws b
+    number-said n = ap (λ (x : Stepped). x .number) stepped ∙ whole-number ws b n
+
+    pub moved-said : stepNumber ws b ≡ 0 → stateBytes (r .state) ≡ stepBytes ws b
+    moved-said h = ap (λ (x : Stepped). stateBytes (x .state)) stepped ∙ moved-bytes ws b h
 
 -- ---- the first record and the rest
 

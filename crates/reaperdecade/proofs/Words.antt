@@ -21,9 +21,6 @@ module _ (b : List ℕ) where
   first-at zero i l = absurd (not-suc-le-zero l)
   first-at (suc n) i l = go (eq-or-lt-of-le (le-of-suc-le-suc l)) (first-at n i)
     where
-      last : wordAt b (4 * n) ∷ [] ≡ wordAt b (4 * n) ∷ []
-      last = refl
-
       go : (i ≡ n) ⊎ (i < n) → (i < n → getD (firstWords b n) i 0 ≡ wordAt b (4 * i)) → getD (firstWords b n ++ wordAt b (4 * n) ∷ []) i 0 ≡ wordAt b (4 * i)
       go (inl e) k =
           let q : i ≡ length (firstWords b n) + 0 = omega (arith, first-length n) in

@@ -1,14 +1,14 @@
 // The C boundary (paper 01, "What the product covers"): what the load tool calls, over numbers and bytes. Any bytes are taken;
 // include/reaperdecade.h declares the functions for C.
 ghost use mathlib.Core.Path.{_≡_};
+ghost use mathlib.Core.Bool.{true};
 ghost use Prim.Native.Nat.{_+_, _≤_};
 ghost use lib.ListN.{length, getD, take, drop};
 ghost use lib.Seq.{sets};
-ghost use Rattle.plan.specs.Dispatch.{step};
 ghost use Rattle.plan.specs.Boundary.{wordsOf, bytesOf, stateOf, stateBytes, startNumber, startBytes, stepNumber, stepBytes, stepAllNumber, stepAllBytes};
 ghost use Rattle.steps.specs.Lookups.{lookup};
+ghost use Rattle.reaperdecade.specs.Entries.{hasEntry};
 use plan::LaneState;
-use plan::Stepped;
 use steps::Lookup;
 use steps::decide;
 use tables::word;
@@ -27,17 +27,29 @@ fn word_at(words: &[u8], i: usize) -> u32
     }
 }
 
+// Does the state's table lie inside the words, and has it the state's entry?
+fn has_entry(words: &[u8], state: LaneState) -> bool
+    ensures { λ r. ⌜ r ≡ hasEntry (wordsOf (now (words .entry))) state ⌝ }
+{
+    let first = state.first as usize;
+    let entries = word_at(words, first + 1);
+    let inside = first + 2 + 3 * entries as usize <= words.len() / 4;
+    let exists = state.entry < entries;
+    inside & exists
+}
+
 // What a step of the state looks up: six words.
 fn look_up(words: &[u8], state: LaneState) -> Lookup
+    requires { ⌜ hasEntry (wordsOf (now words)) state ≡ true ⌝ }
     ensures { λ r. ⌜ r ≡ lookup (wordsOf (now (words .entry))) state ⌝ }
 {
     let first = state.first as usize;
     let at = first + 2 + 3 * state.entry as usize;
-    let ticks = word_at(words, first);
-    let entries = word_at(words, first + 1);
-    let begin = word_at(words, at);
-    let kind = word_at(words, at + 1);
-    let row = word_at(words, at + 2);
+    let ticks = word(words, 4 * first);
+    let entries = word(words, 4 * (first + 1));
+    let begin = word(words, 4 * at);
+    let kind = word(words, 4 * (at + 1));
+    let row = word(words, 4 * (at + 2));
     let next = word_at(words, at + 3);
     let inside = first + 2 + 3 * entries as usize <= words.len() / 4;
     Lookup {
@@ -49,13 +61,6 @@ fn look_up(words: &[u8], state: LaneState) -> Lookup
         row: row,
         next: next,
     }
-}
-
-// A step of a state by value, over words as bytes.
-fn step_words(words: &[u8], state: LaneState) -> Stepped
-    ensures { λ r. ⌜ r ≡ step (wordsOf (now (words .entry))) state ⌝ }
-{
-    decide(look_up(words, state), state)
 }
 
 // The state that a record of 28 bytes holds.
@@ -102,6 +107,28 @@ fn put_state(bytes: &mut [u8], state: LaneState)
     put_word(bytes, 24, state.row);
 }
 
+// The number of a step of a record of 28 bytes.
+fn number_of(words: &[u8], bytes: &[u8]) -> u32
+    requires { ⌜ length (now bytes) ≡ 28 ⌝ }
+    ensures { λ r. ⌜ r ≡ stepNumber (now (words .entry)) (now (bytes .entry)) ⌝ }
+{
+    let state = state_of(bytes);
+    if !has_entry(words, state) {
+        return 27;
+    }
+    decide(look_up(words, state), state).number
+}
+
+// Moves a record of 28 bytes that is not refused.
+fn move_record(words: &[u8], bytes: &mut [u8])
+    requires { ⌜ (length (now bytes) ≡ 28) × (stepNumber (now words) (now bytes) ≡ 0) ⌝ }
+    ensures { λ _. ⌜ now (bytes .exit) ≡ stepBytes (now (words .entry)) (now (bytes .entry)) ⌝ }
+{
+    let state = state_of(bytes);
+    let stepped = decide(look_up(words, state), state);
+    put_state(bytes, stepped.state);
+}
+
 // Starts a lane: tick 0 of a cycle, with its table at a first word. Gives 0, or 27 for a state of another length than 28,
 // which stays as it was.
 #[no_mangle]
@@ -123,11 +150,11 @@ pub extern "C" fn rd_step(words: &[u8], state: &mut [u8]) -> u32
     if state.len() != STATE {
         return 27;
     }
-    let stepped = step_words(words, state_of(state));
-    if stepped.number != 0 {
-        return stepped.number;
+    let number = number_of(words, state);
+    if number != 0 {
+        return number;
     }
-    put_state(state, stepped.state);
+    move_record(words, state);
     0
 }
 
@@ -140,7 +167,7 @@ fn number_at(words: &[u8], states: &[u8], i: usize) -> u32
         return 27;
     }
     let end = i + STATE;
-    step_words(words, state_of(&states[i..end])).number
+    number_of(words, &states[i..end])
 }
 
 // The number of the lowest record that is refused, or 0.
@@ -156,15 +183,6 @@ fn refused_number(words: &[u8], states: &[u8]) -> u32
         i += STATE;
     }
     0
-}
-
-// Moves one record that is not refused.
-fn move_record(words: &[u8], bytes: &mut [u8])
-    requires { ⌜ (length (now bytes) ≡ 28) × (stepNumber (now words) (now bytes) ≡ 0) ⌝ }
-    ensures { λ _. ⌜ now (bytes .exit) ≡ stepBytes (now (words .entry)) (now (bytes .entry)) ⌝ }
-{
-    let stepped = step_words(words, state_of(bytes));
-    put_state(bytes, stepped.state);
 }
 
 // Moves all records, none of which is refused.
