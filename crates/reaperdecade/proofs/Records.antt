@@ -16,11 +16,11 @@ use Rattle.plan.specs.Boundary.{wordsOf, stateOf, stateBytes, startNumber, star
 use Rattle.plan.specs.declared.LaneState.{LaneState}
 use Rattle.plan.specs.declared.Stepped.{Stepped}
 use Rattle.steps.specs.declared.Lookup.{Lookup}
-use Rattle.steps.specs.Lookups.{lookup, decided}
+use Rattle.steps.specs.Lookups.{lookup, fitsTable, endsCalendar, stateAfter, decided}
 use Rattle.steps.proofs.Reading.{step-read}
 use Rattle.reaperdecade.specs.Entries.{hasEntry}
 use Rattle.reaperdecade.proofs.Bytes.{state-length}
-use Rattle.reaperdecade.proofs.Entries.{no-entry, has-entry}
+use Rattle.reaperdecade.proofs.Entries.{no-entry, has-entry, deciding, decided-state}
 
 -- ---- one record
 
@@ -71,16 +71,21 @@ module _ (ws b : List ℕ) (st : LaneState) (is : st ≡ stateOf b) where
   pub entry-said : stepNumber ws b ≡ 0 → hasEntry (wordsOf ws) st ≡ true
   entry-said h = has-entry (wordsOf ws) st (ap (λ (x : LaneState). step (wordsOf ws) x .number) is ∙ whole-number ws b (whole ws b h) ∙ h)
 
-  -- its numbers are looked up, and the step is decided
-  module _ (l : Lookup) (r : Stepped) (found : l ≡ lookup (wordsOf ws) st) (said : r ≡ decided l st) where
-    stepped : r ≡ step (wordsOf ws) (stateOf b)
-    stepped = said ∙ ap (λ (x : Lookup). decided x st) found ∙ step-read (wordsOf ws) st ∙ ap (step (wordsOf ws)) is
+  -- its numbers are looked up
+  module _ (l : Lookup) (found : l ≡ lookup (wordsOf ws) st) where
+    decision : decided l st ≡ step (wordsOf ws) (stateOf b)
+    decision = ap (λ (x : Lookup). decided x st) found ∙ step-read (wordsOf ws) st ∙ ap (step (wordsOf ws)) is
 
-    pub number-said : length b ≡ 28 → r .number ≡ stepNumber ws b
-    number-said n = ap (λ (x : Stepped). x .number) stepped ∙ whole-number ws b n
+    pub number-said : length b ≡ 28 → decided l st .number ≡ stepNumber ws b
+    number-said n = ap (λ (x : Stepped). x .number) decision ∙ whole-number ws b n
 
-    pub moved-said : stepNumber ws b ≡ 0 → stateBytes (r .state) ≡ stepBytes ws b
-    moved-said h = ap (λ (x : Stepped). stateBytes (x .state)) stepped ∙ moved-bytes ws b h
+    pub fits-said : stepNumber ws b ≡ 0 → (fitsTable l st ≡ true) × (endsCalendar l st ≡ false)
+    fits-said h = deciding l st (number-said (whole ws b h) ∙ h)
+
+    pub moved-said : stepNumber ws b ≡ 0 → stateBytes (stateAfter l st) ≡ stepBytes ws b
+    moved-said h =
+        let k = fits-said h in
+        ap stateBytes (sym (decided-state l st (k .0) (k .1))) ∙ ap (λ (x : Stepped). stateBytes (x .state)) decision ∙ moved-bytes ws b h
 
 -- ---- the first record and the rest
 

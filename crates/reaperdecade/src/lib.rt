@@ -10,7 +10,9 @@ ghost use Rattle.steps.specs.Lookups.{lookup};
 ghost use Rattle.reaperdecade.specs.Entries.{hasEntry};
 use plan::LaneState;
 use steps::Lookup;
-use steps::decide;
+use steps::ends_calendar;
+use steps::fits_table;
+use steps::state_after;
 use tables::word;
 
 // How many bytes a state takes.
@@ -116,7 +118,14 @@ fn number_of(words: &[u8], bytes: &[u8]) -> u32
     if !has_entry(words, state) {
         return 27;
     }
-    decide(look_up(words, state), state).number
+    let table = look_up(words, state);
+    if !fits_table(table, state) {
+        return 27;
+    }
+    if ends_calendar(table, state) {
+        return 28;
+    }
+    0
 }
 
 // Moves a record of 28 bytes that is not refused.
@@ -125,8 +134,8 @@ fn move_record(words: &[u8], bytes: &mut [u8])
     ensures { λ _. ⌜ now (bytes .exit) ≡ stepBytes (now (words .entry)) (now (bytes .entry)) ⌝ }
 {
     let state = state_of(bytes);
-    let stepped = decide(look_up(words, state), state);
-    put_state(bytes, stepped.state);
+    let next = state_after(look_up(words, state), state);
+    put_state(bytes, next);
 }
 
 // Starts a lane: tick 0 of a cycle, with its table at a first word. Gives 0, or 27 for a state of another length than 28,

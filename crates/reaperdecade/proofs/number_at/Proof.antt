@@ -6,39 +6,28 @@ use Rattle.reaperdecade.proofs.Records.{other-length}
 use borrow.Author.Needs.{needs}
 use Rattle.reaperdecade.proofs.number_at.Statement.{statement}
 use Rattle.reaperdecade.proofs.number_at.Tie as tie
-use Rattle.reaperdecade.proofs.number_at.Reads as reads
-use Rattle.reaperdecade.proofs.number_at.Lts as lts
-use Rattle.reaperdecade.proofs.number_of.Reads as number-of-reads
 
--- src/lib.rt:166:8
 sub-if1 : tie.Need-sub-if1
 sub-if1 c = search needs
 
--- src/lib.rt:167:9
 returns : tie.Need-returns
 returns c = let a = c .before .before .before .args in other-length (a .words .now) (take 28 (drop (a .i) (a .states .now))) (λ e. omega (arith, length-take 28 (drop (a .i) (a .states .now)), length-drop (a .i) (a .states .now), c .if1 .taken)) .0
 
--- src/lib.rt:169:15
 add-end : tie.Need-add-end
 add-end c = search needs
 
--- src/lib.rt:170:22
 sub-number-of : tie.Need-sub-number-of
 sub-number-of c = search needs
 
--- src/lib.rt:170:22
 part-number-of-start : tie.Need-part-number-of-start
 part-number-of-start c = search needs
 
--- src/lib.rt:170:22
 part-number-of-end : tie.Need-part-number-of-end
 part-number-of-end c = search needs
 
--- src/lib.rt:170:5
 number-of-requires : tie.Need-number-of-requires
 number-of-requires c κs = search needs
 
--- src/lib.rt:162:1
 returns-2 : tie.Need-returns-2
 returns-2 c = let a = c .before .before .before .before .before .args in let k : a .i + 28 - a .i ≡ 28 = omega arith in rw k at (c .number-of .ensures)
 

@@ -4,58 +4,43 @@ use Rattle.reaperdecade.proofs.Bytes.{word-stored}
 use borrow.Author.Needs.{needs}
 use Rattle.reaperdecade.proofs.put_word.Statement.{statement}
 use Rattle.reaperdecade.proofs.put_word.Tie as tie
-use Rattle.reaperdecade.proofs.put_word.Reads as reads
-use Rattle.reaperdecade.proofs.put_word.Lts as lts
 
--- src/lib.rt:83:16
 cast-bytes : tie.Need-cast-bytes
 cast-bytes c = search needs
 
--- src/lib.rt:83:5
 slice-write-bytes : tie.Need-slice-write-bytes
 slice-write-bytes c = search needs
 
--- src/lib.rt:84:20
 cast-bytes-2 : tie.Need-cast-bytes-2
 cast-bytes-2 c = search needs
 
--- src/lib.rt:84:11
 add-bytes : tie.Need-add-bytes
 add-bytes c = search needs
 
--- src/lib.rt:84:5
 slice-write-bytes-2 : tie.Need-slice-write-bytes-2
 slice-write-bytes-2 c = simp length-set (omega arith)
 
--- src/lib.rt:85:20
 cast-bytes-3 : tie.Need-cast-bytes-3
 cast-bytes-3 c = search needs
 
--- src/lib.rt:85:11
 add-bytes-2 : tie.Need-add-bytes-2
 add-bytes-2 c = search needs
 
--- src/lib.rt:85:5
 slice-write-bytes-3 : tie.Need-slice-write-bytes-3
 slice-write-bytes-3 c = simp length-set (omega arith)
 
--- src/lib.rt:86:20
 cast-bytes-4 : tie.Need-cast-bytes-4
 cast-bytes-4 c = search needs
 
--- src/lib.rt:86:11
 add-bytes-3 : tie.Need-add-bytes-3
 add-bytes-3 c = search needs
 
--- src/lib.rt:86:5
 slice-write-bytes-4 : tie.Need-slice-write-bytes-4
 slice-write-bytes-4 c = simp length-set (omega arith)
 
--- src/lib.rt:79:1
 same-length : tie.Need-same-length
 same-length c = search needs
 
--- src/lib.rt:79:1
 returns : tie.Need-returns
 returns c = word-stored (c .args .bytes .now) (c .args .i) (c .args .x)
 

@@ -4,28 +4,19 @@ use Rattle.reaperdecade.proofs.Records.{not-started, started}
 use borrow.Author.Needs.{needs}
 use Rattle.reaperdecade.proofs.rd_start.Statement.{statement}
 use Rattle.reaperdecade.proofs.rd_start.Tie as tie
-use Rattle.reaperdecade.proofs.rd_start.Reads as reads
-use Rattle.reaperdecade.proofs.rd_start.Lts as lts
-use Rattle.plan.proofs.LaneState.start.Reads as start-reads
-use Rattle.reaperdecade.proofs.put_state.Reads as put-state-reads
 
--- src/lib.rt:112:9
 returns : tie.Need-returns
 returns c = let a = c .before .before .args in not-started (a .cycle) (a .first) (a .state .now) (c .if1 .taken)
 
--- src/lib.rt:114:22
 start-requires : tie.Need-start-requires
 start-requires c κs = search needs
 
--- src/lib.rt:114:5
 put-state-requires : tie.Need-put-state-requires
 put-state-requires c κs = search needs
 
--- src/lib.rt:107:1
 same-length : tie.Need-same-length
 same-length c = search needs
 
--- src/lib.rt:107:1
 returns-2 : tie.Need-returns-2
 returns-2 c = let a = c .before .before .before .before .before .before .before .args in let h = started (a .cycle) (a .first) (a .state .now) (c .before .before .before .before .before .if1 .left) in (h .0, c .before .before .put-state .ensures ∙ ap stateBytes (c .before .before .before .start .ensures) ∙ h .1)
 

@@ -6,9 +6,6 @@ use Rattle.plan.specs.Boundary.{stepAllNumber}
 use Rattle.reaperdecade.proofs.Records.{refused-at, fits-at, all-fit}
 use Rattle.reaperdecade.proofs.refused_number.Statement.{statement}
 use Rattle.reaperdecade.proofs.refused_number.Tie as tie
-use Rattle.reaperdecade.proofs.refused_number.Reads as reads
-use Rattle.reaperdecade.proofs.refused_number.Lts as lts
-use Rattle.reaperdecade.proofs.number_at.Reads as number-at-reads
 
 abbrev Inv-loop : tie.InvT-loop
 Inv-loop words states i₀ i = (i ≤ length states) × (stepAllNumber words states ≡ stepAllNumber words (drop i states))
@@ -16,31 +13,24 @@ Inv-loop words states i₀ i = (i ≤ length states) × (stepAllNumber words sta
 abbrev μ-loop : tie.MeasureT-loop
 μ-loop words states i₀ i = length states - i
 
--- src/lib.rt:151:5
 loop-holds : tie.Need-loop-holds Inv-loop μ-loop
 loop-holds c = (omega arith, refl)
 
--- src/lib.rt:152:13
 number-at-requires : tie.Need-number-at-requires Inv-loop μ-loop
 number-at-requires c κs = omega arith
 
--- src/lib.rt:154:13
 returns : tie.Need-returns Inv-loop μ-loop
 returns c = let l = c .before .before .before .loop in let a = c .before .before .before .before .before .before .args in let w = a .words .now in let s = a .states .now in let e = c .before .number-at .ensures in e ∙ refused-at w s (l .i) (l .inv .1) (c .before .before .loop-test .taken) (λ z. c .if1 .taken (e ∙ z))
 
--- src/lib.rt:156:9
 add-i : tie.Need-add-i Inv-loop μ-loop
 add-i c = omega arith
 
--- src/lib.rt:151:5
 loop-less : tie.Need-loop-less Inv-loop μ-loop
 loop-less c = omega arith
 
--- src/lib.rt:151:5
 loop-again : tie.Need-loop-again Inv-loop μ-loop
 loop-again c = let l = c .before .before .before .loop in let a = c .before .before .before .before .before .before .args in let w = a .words .now in let s = a .states .now in let e = c .before .number-at .ensures in let h = fits-at w s (l .i) (l .inv .1) (c .before .before .loop-test .taken) (sym e ∙ c .if1 .left) in (h .0, h .1)
 
--- src/lib.rt:147:1
 returns-2 : tie.Need-returns-2 Inv-loop μ-loop
 returns-2 c = let l = c .before .loop in let a = c .before .before .before .before .args in all-fit (a .words .now) (a .states .now) (l .i) (l .inv .1) (c .loop-test .left)
 

@@ -2,55 +2,40 @@ use Rattle.plan.specs.Boundary.{stateOf}
 use borrow.Author.Needs.{needs}
 use Rattle.reaperdecade.proofs.state_of.Statement.{statement}
 use Rattle.reaperdecade.proofs.state_of.Tie as tie
-use Rattle.reaperdecade.proofs.state_of.Reads as reads
-use Rattle.reaperdecade.proofs.state_of.Lts as lts
-use Rattle.tables.proofs.word.Reads as word-reads
 
--- src/lib.rt:66:15
 word-requires : tie.Need-word-requires
 word-requires c κs = search needs
 
--- src/lib.rt:66:15
 cast-low : tie.Need-cast-low
 cast-low c = search needs
 
--- src/lib.rt:67:16
 word-requires-2 : tie.Need-word-requires-2
 word-requires-2 c κs = search needs
 
--- src/lib.rt:67:16
 cast-high : tie.Need-cast-high
 cast-high c = search needs
 
--- src/lib.rt:69:22
 mul-t5 : tie.Need-mul-t5
 mul-t5 c = search needs
 
--- src/lib.rt:69:16
 add-t6 : tie.Need-add-t6
 add-t6 c = search needs
 
--- src/lib.rt:70:15
 word-requires-3 : tie.Need-word-requires-3
 word-requires-3 c κs = search needs
 
--- src/lib.rt:71:16
 word-requires-4 : tie.Need-word-requires-4
 word-requires-4 c κs = search needs
 
--- src/lib.rt:72:16
 word-requires-5 : tie.Need-word-requires-5
 word-requires-5 c κs = search needs
 
--- src/lib.rt:73:15
 word-requires-6 : tie.Need-word-requires-6
 word-requires-6 c κs = search needs
 
--- src/lib.rt:74:14
 word-requires-7 : tie.Need-word-requires-7
 word-requires-7 c κs = search needs
 
--- src/lib.rt:62:1
 returns : tie.Need-returns
 unfolding stateOf
 returns c = cc

@@ -6,23 +6,16 @@ use Rattle.reaperdecade.proofs.Words.{words-length, words-at}
 use borrow.Author.Needs.{needs}
 use Rattle.reaperdecade.proofs.word_at.Statement.{statement}
 use Rattle.reaperdecade.proofs.word_at.Tie as tie
-use Rattle.reaperdecade.proofs.word_at.Reads as reads
-use Rattle.reaperdecade.proofs.word_at.Lts as lts
-use Rattle.tables.proofs.word.Reads as word-reads
 
--- src/lib.rt:17:21
 mul-word : tie.Need-mul-word
 mul-word c = search needs
 
--- src/lib.rt:17:9
 word-requires : tie.Need-word-requires
 word-requires c κs = search needs
 
--- src/lib.rt:13:1
 returns : tie.Need-returns
 returns c = let b = c .before in let a = b .before .before .args in cc (words-at (a .words .now) (a .i) (b .if1 .taken))
 
--- src/lib.rt:13:1
 returns-2 : tie.Need-returns-2
 returns-2 c = let b = c .before .before in sym (List·getD-eq-default (wordsOf (b .args .words .now)) 0 (omega (arith, words-length (b .args .words .now))))
 
