@@ -3,3 +3,4 @@ pub mod Bytes
 pub mod Entries
 pub mod Records
 pub mod States
+pub mod Runs
