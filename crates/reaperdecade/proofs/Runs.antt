@@ -202,9 +202,10 @@ module _ (ws : List ℕ) (b : AreBytes ws) where
   unfolding givesBytes leavesBytes gives leaves
   call-of-bytes sts allLanes w h = step-all-of-bytes ws sts w
   call-of-bytes sts (oneLane l) w h =
-      let k = step-of-bytes ws (getD sts l none) (width-at (wordsOf ws) (words-of ws b) sts l w h) in
-      (ap (stepNumber ws) (record-at sts l h) ∙ k .0,
-      (rw (record-at sts l h, k .1) refl) ∙ sym (set-row sts l h (step (wordsOf ws) (getD sts l none) .state)))
+      let k = step-of-bytes ws (getD sts l none) (width-at (wordsOf ws) (words-of ws b) sts l w h) in (
+        ap (stepNumber ws) (record-at sts l h) ∙ k .0,
+        (rw (record-at sts l h, k .1) refl) ∙ sym (set-row sts l h (step (wordsOf ws) (getD sts l none) .state)),
+      )
 
   call-kept : (sts : List LaneState) (c : Call) → AllInWidth sts → Among (length sts) c → AllInWidth (leaves (wordsOf ws) sts c)
   unfolding leaves

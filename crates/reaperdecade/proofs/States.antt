@@ -46,9 +46,14 @@ two-low x h =
 pub round-trip : (st : LaneState) → InWidth st → stateOf (stateBytes st) ≡ st
 unfolding stateOf stateBytes bytesOf wordAt
 round-trip st w =
-    rw
-    (two-low (st .cycle) (w .cycle), low-word (st .tick) (w .tick), low-word (st .entry) (w .entry), low-word (st .first) (w .first), low-word (st .kind) (w .kind),
-      low-word (st .row) (w .row))
+    rw (
+      two-low (st .cycle) (w .cycle),
+      low-word (st .tick) (w .tick),
+      low-word (st .entry) (w .entry),
+      low-word (st .first) (w .first),
+      low-word (st .kind) (w .kind),
+      low-word (st .row) (w .row),
+    )
     refl
 
 -- ---- one lane

@@ -144,11 +144,11 @@ fn move_record(words: &[u8], bytes: &mut [u8])
 pub extern "C" fn rd_start(cycle: u64, first: u32, state: &mut [u8]) -> u32
     ensures { λ r. ⌜ (r ≡ startNumber (now (state .entry))) × (now (state .exit) ≡ startBytes cycle first (now (state .entry))) ⌝ }
 {
-    if state.len() != STATE {
-        return 27;
+    if state.len() == STATE {
+        put_state(state, LaneState::start(cycle, first));
+        return 0;
     }
-    put_state(state, LaneState::start(cycle, first));
-    0
+    27
 }
 
 // Steps one lane. Gives 0, or the number of a refusal, 27 or 28, which changes no byte.
@@ -159,9 +159,9 @@ pub extern "C" fn rd_step(words: &[u8], state: &mut [u8]) -> u32
     if state.len() != STATE {
         return 27;
     }
-    let number = number_of(words, state);
-    if number != 0 {
-        return number;
+    let refusal = number_of(words, state);
+    if refusal != 0 {
+        return refusal;
     }
     move_record(words, state);
     0
@@ -213,9 +213,9 @@ fn move_all(words: &[u8], states: &mut [u8])
 pub extern "C" fn rd_step_all(words: &[u8], states: &mut [u8]) -> u32
     ensures { λ r. ⌜ (r ≡ stepAllNumber (now (words .entry)) (now (states .entry))) × (now (states .exit) ≡ stepAllBytes (now (words .entry)) (now (states .entry))) ⌝ }
 {
-    let number = refused_number(words, states);
-    if number != 0 {
-        return number;
+    let lowest = refused_number(words, states);
+    if lowest != 0 {
+        return lowest;
     }
     move_all(words, states);
     0
