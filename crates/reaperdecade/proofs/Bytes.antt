@@ -1,18 +1,17 @@
--- Numbers and states as bytes: how many, what is read back from them, and what is stored.
-use Prim.Native.Nat.{ℕ, zero, suc, _+_, _*_, _/_, _%_, _^_, _≤_, _<_}
+-- Numbers and states as bytes: how many, and what is stored.
+use Prim.Native.Nat.{ℕ, zero, suc, _+_, _*_, _/_, _%_, _^_}
 use mathlib.Core.Path.{_≡_, refl, sym, ap, _∙_}
 use mathlib.Core.List.{List, _∷_, _++_, [], append-nil}
-use native.Mathlib.Nat.{add-zero, zero-add}
+use native.Mathlib.Nat.{add-zero}
 use native.Mathlib.Omega.{arith}
-use lib.ListN.{length, getD, set, take, drop, length-append, drop-of-length-le}
-use lib.Seq.{sets, sets-eq, getD-append-add}
-use Rattle.plan.specs.Image.{wordAt}
-use Rattle.plan.specs.Boundary.{bytesOf, stateOf, stateBytes}
+use lib.ListN.{length, set, length-append, drop-of-length-le}
+use lib.Seq.{sets, sets-eq}
+use Rattle.plan.specs.Boundary.{bytesOf, stateBytes}
 use Rattle.plan.specs.declared.LaneState.{LaneState}
 
 -- ---- a number's bytes
 
-pub bytes-length : (n x : ℕ) → length (bytesOf n x) ≡ n
+bytes-length : (n x : ℕ) → length (bytesOf n x) ≡ n
 unfolding bytesOf
 bytes-length zero x = refl
 bytes-length (suc n) x = ap suc (bytes-length n (x / 256))
@@ -21,7 +20,7 @@ digit : (x r k : ℕ) → x ≡ r + 256 * k → (r % 256 ≡ x % 256) × (x / 25
 digit x r k e = (omega arith, omega arith)
 
 -- eight bytes are two words
-pub two-words : (x : ℕ) → bytesOf 8 x ≡ bytesOf 4 (x % 2 ^ 32) ++ bytesOf 4 (x / 2 ^ 32)
+two-words : (x : ℕ) → bytesOf 8 x ≡ bytesOf 4 (x % 2 ^ 32) ++ bytesOf 4 (x / 2 ^ 32)
 unfolding bytesOf
 two-words x =
     let r : ℕ = x % 2 ^ 32 in
@@ -46,20 +45,7 @@ word-stored l i x =
     let e : x / 16777216 ≡ x / 256 / 256 / 256 = omega arith in
     rw (a, b, c, d, e) refl
 
--- a word's bytes read back, where they stand after others
-pub word-read : (x : ℕ) (q : List ℕ) → x < 2 ^ 32 → wordAt (bytesOf 4 x ++ q) 0 ≡ x
-unfolding bytesOf wordAt
-word-read x q l = omega arith
-
-pub word-after : (p q : List ℕ) (i : ℕ) → wordAt (p ++ q) (length p + i) ≡ wordAt q i
-unfolding wordAt
-word-after p q i =
-    let a : length p + i + 1 ≡ length p + (i + 1) = omega arith in
-    let b : length p + i + 2 ≡ length p + (i + 2) = omega arith in
-    let c : length p + i + 3 ≡ length p + (i + 3) = omega arith in
-    rw (a, b, c) (simp getD-append-add)
-
-pub sets-append : (vs ws l : List ℕ) (i : ℕ) → sets l i (vs ++ ws) ≡ sets (sets l i vs) (i + length vs) ws
+sets-append : (vs ws l : List ℕ) (i : ℕ) → sets l i (vs ++ ws) ≡ sets (sets l i vs) (i + length vs) ws
 sets-append [] ws l i = rw (add-zero i) refl
 sets-append (v ∷ vs) ws l i =
     let e : suc i + length vs ≡ i + suc (length vs) = omega arith in

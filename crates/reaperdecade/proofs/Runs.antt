@@ -1,16 +1,15 @@
 -- Lists of calls through C: they give the numbers that the same calls of states give, and leave the bytes of the states that those
 -- leave. So what plan's Demand.antt says of runs holds of them.
-use Prim.Native.Nat.{ℕ, zero, suc, _+_, _-_, _*_, _/_, _^_, _≤_, _<_}
+use Prim.Native.Nat.{ℕ, zero, suc, _+_, _-_, _*_, _/_, _^_, _<_}
 use mathlib.Core.Path.{_≡_, refl, sym, ap, subst, _∙_}
-use mathlib.Core.Logic.{_⊎_, inl, inr}
-use mathlib.Core.Bool.{Bool, true, false, not, _&&_, _||_, cond, true≢false}
+use mathlib.Core.Bool.{Bool, true, false, not, _&&_, cond, true≢false}
 use mathlib.Core.List.{List, _∷_, _++_, [], map, flatMap, append-assoc}
 use native.Mathlib.Nat.{not-suc-le-zero, le-of-suc-le-suc}
 use native.Mathlib.Omega.{arith}
 use native.Mathlib.Decide.{decLt}
 use lib.Dec.{ltb, leb, eqb}
-use borrow.Author.Tests.{eq-eqb, ltb-true}
-use lib.ListN.{length, getD, take, drop, set, length-drop, List·getD-eq-default, length-map, length-set}
+use borrow.Author.Tests.{eq-eqb}
+use lib.ListN.{length, getD, take, drop, set, List·getD-eq-default, length-map, length-set}
 use lib.Seq.{take-at, drop-at, drop-drop, drop-cons, drop-nil, take-nil, drop-append-add, take-append-add, set-split}
 use Rattle.plan.specs.Image.{wordAt}
 use Rattle.plan.specs.Dispatch.{tableTicks, tableEntries, entryWord, fits, lastTick, calendarEnds, nextEntry, moved, step, startState, refusal, stepAll}

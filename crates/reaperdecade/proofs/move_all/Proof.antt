@@ -1,5 +1,5 @@
 use Prim.Native.Nat.{_+_, _-_, _<_}
-use mathlib.Core.Path.{_≡_, refl, sym, ap, subst, _∙_}
+use mathlib.Core.Path.{_≡_}
 use native.Mathlib.Omega.{arith}
 use lib.ListN.{length}
 use Rattle.reaperdecade.proofs.Records.{Moved, moved-none, here-fits, moved-part, moved-all}
