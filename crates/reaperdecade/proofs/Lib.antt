@@ -4,3 +4,4 @@ pub mod Entries
 pub mod Records
 pub mod States
 pub mod Runs
+pub mod Answers

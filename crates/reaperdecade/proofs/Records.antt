@@ -1,6 +1,6 @@
 -- A row of bytes as records of 28: the first one and the rest; what is known once no record before byte i is refused; and the
 -- bytes of which the records before byte i are moved.
-use Prim.Native.Nat.{ℕ, suc, _+_, _-_, _/_, _≤_, _<_}
+use Prim.Native.Nat.{ℕ, zero, suc, _+_, _*_, _/_, _≤_, _<_}
 use mathlib.Core.Path.{_≡_, refl, sym, ap, subst, _∙_}
 use mathlib.Core.Logic.{_≢_}
 use mathlib.Core.Bool.{Bool, true, false, cond}
@@ -10,7 +10,7 @@ use lib.Dec.{eqb}
 use borrow.Author.Tests.{eq-eqb, ne-eqb, eqb-true}
 use lib.ListN.{length, take, drop, length-append, length-take, length-drop, drop-of-length-le}
 use borrow.Rule.Slice.PartMut.{putMid}
-use lib.Seq.{drop-drop, take-all, take-at, drop-at, length-take-le}
+use lib.Seq.{drop-drop, take-add, take-all, take-at, drop-at, length-take-le}
 use Rattle.plan.specs.Dispatch.{step, startState}
 use Rattle.plan.specs.Boundary.{wordsOf, stateOf, stateBytes, startNumber, startBytes, stepNumber, stepBytes, firstRecords, recordsOf, refusedNumber, stepAllNumber, stepAllBytes}
 use Rattle.plan.specs.declared.LaneState.{LaneState}
@@ -98,6 +98,18 @@ records-cons b l =
 pub records-nil : recordsOf [] ≡ []
 unfolding recordsOf firstRecords
 records-nil = refl
+
+-- the records, one after the other, are all bytes
+records-join : (n : ℕ) (b : List ℕ) → flatMap (λ (r : List ℕ). r) (firstRecords n b) ≡ take (28 * n) b
+unfolding firstRecords flatMap
+records-join zero b = refl
+records-join (suc n) b =
+    let e : 28 + 28 * n ≡ 28 * suc n = omega arith in
+    ap (λ (x : List ℕ). take 28 b ++ x) (records-join n (drop 28 b)) ∙ sym (take-add 28 (28 * n) b) ∙ ap (λ (k : ℕ). take k b) e
+
+pub records-whole : (b : List ℕ) → flatMap (λ (r : List ℕ). r) (recordsOf b) ≡ b
+unfolding recordsOf
+records-whole b = records-join ((length b + 27) / 28) b ∙ take-all (28 * ((length b + 27) / 28)) b (omega arith)
 
 -- ---- the number of a row of records
 
