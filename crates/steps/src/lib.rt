@@ -5,7 +5,7 @@ ghost use mathlib.Core.Bool.{false};
 ghost use Prim.Native.Nat.{_<_};
 ghost use lib.ListN.{getD};
 ghost use Rattle.plan.specs.Dispatch.{step, refusal, stepAll};
-ghost use Rattle.steps.specs.Lookups.{lookup, fitsTable, endsCycle, endsCalendar, entryAfter, stateAfter, decided};
+ghost use Rattle.steps.specs.Lookups.{lookup, fitsTable, endsCycle, endsCalendar, stateAfter, decided};
 use plan::LaneState;
 use plan::Stepped;
 
@@ -22,7 +22,7 @@ pub struct Lookup {
 }
 
 // 27: does the state fit its table?
-fn fits_table(table: Lookup, state: LaneState) -> bool
+pub fn fits_table(table: Lookup, state: LaneState) -> bool
     ensures { λ r. ⌜ r ≡ fitsTable table state ⌝ }
 {
     let exists = state.entry < table.entries;
@@ -41,18 +41,43 @@ fn ends_cycle(table: Lookup, state: LaneState) -> bool
 }
 
 // 28: is this the last tick of cycle 2^64 - 1, where the calendar ends?
-fn ends_calendar(table: Lookup, state: LaneState) -> bool
+pub fn ends_calendar(table: Lookup, state: LaneState) -> bool
     ensures { λ r. ⌜ r ≡ endsCalendar table state ⌝ }
 {
     let last_cycle = state.cycle == 18446744073709551615;
     ends_cycle(table, state) & last_cycle
 }
 
-// The entry at the next tick of the cycle.
+// The cycle, the tick and the entry one tick on.
+fn cycle_after(table: Lookup, state: LaneState) -> u64
+    requires { ⌜ endsCalendar table state ≡ false ⌝ }
+    ensures { λ r. ⌜ r ≡ stateAfter table state .cycle ⌝ }
+{
+    if ends_cycle(table, state) {
+        state.cycle + 1
+    } else {
+        state.cycle
+    }
+}
+
+fn tick_after(table: Lookup, state: LaneState) -> u32
+    requires { ⌜ state .tick < table .ticks ⌝ }
+    ensures { λ r. ⌜ r ≡ stateAfter table state .tick ⌝ }
+{
+    if ends_cycle(table, state) {
+        0
+    } else {
+        state.tick + 1
+    }
+}
+
 fn entry_after(table: Lookup, state: LaneState) -> u32
     requires { ⌜ (state .entry < table .entries) × (state .tick < table .ticks) ⌝ }
-    ensures { λ r. ⌜ r ≡ entryAfter table state ⌝ }
+    ensures { λ r. ⌜ r ≡ stateAfter table state .entry ⌝ }
 {
+    if ends_cycle(table, state) {
+        return 0;
+    }
     let follows = state.entry + 1 < table.entries;
     let reached = table.next <= state.tick + 1;
     if follows & reached {
@@ -63,25 +88,14 @@ fn entry_after(table: Lookup, state: LaneState) -> u32
 }
 
 // The state one tick on. It shows the kind and row of the entry that it leaves or stays in.
-fn state_after(table: Lookup, state: LaneState) -> LaneState
+pub fn state_after(table: Lookup, state: LaneState) -> LaneState
     requires { ⌜ ((state .entry < table .entries) × (state .tick < table .ticks)) × (endsCalendar table state ≡ false) ⌝ }
     ensures { λ r. ⌜ r ≡ stateAfter table state ⌝ }
 {
-    if ends_cycle(table, state) {
-        return LaneState {
-            cycle: state.cycle + 1,
-            tick: 0,
-            entry: 0,
-            first: state.first,
-            kind: table.kind,
-            row: table.row,
-        };
-    }
-    let entry = entry_after(table, state);
     LaneState {
-        cycle: state.cycle,
-        tick: state.tick + 1,
-        entry: entry,
+        cycle: cycle_after(table, state),
+        tick: tick_after(table, state),
+        entry: entry_after(table, state),
         first: state.first,
         kind: table.kind,
         row: table.row,

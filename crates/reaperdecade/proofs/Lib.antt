@@ -1,0 +1,7 @@
+pub mod Words
+pub mod Bytes
+pub mod Entries
+pub mod Records
+pub mod States
+pub mod Runs
+pub mod Answers

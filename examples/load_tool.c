@@ -1,0 +1,249 @@
+/*
+ * load_tool - what a load tool does with a plan image, whole.
+ *
+ *     load_tool [-c CYCLE] [-n CYCLES] [FILE]
+ *
+ * Reads a plan image from FILE or standard input, checks it and prints the
+ * answer as `number table row`. A refused plan ends there, with status 1.
+ * For an accepted one it builds every lane's table into one row of words,
+ * starts every lane in cycle CYCLE (0), steps all lanes through CYCLES (2)
+ * cycles, and prints `cycle tick lane kind row` wherever a lane shows
+ * something else than at the tick before.
+ *
+ *     cc -std=c99 -Iinclude -o load_tool examples/load_tool.c libreaperdecade.a
+ */
+#include <errno.h>
+#include <inttypes.h>
+#include <stdio.h>
+#include <stdlib.h>
+#include <string.h>
+
+#include "reaperdecade.h"
+
+/* Bytes that grow. */
+struct bytes {
+    uint8_t *at;
+    size_t length;
+    size_t room;
+};
+
+/* The tables of all lanes in one row of words, and the states of all lanes. */
+struct tables {
+    struct bytes words;
+    struct bytes states;
+    uint32_t lanes;
+};
+
+static void fail(const char *what)
+{
+    fprintf(stderr, "load_tool: %s: %s\n", what, errno != 0 ? strerror(errno) : "failed");
+    exit(2);
+}
+
+/* Makes room for so many bytes in all. */
+static void make_room(struct bytes *b, size_t room)
+{
+    uint8_t *at;
+
+    if (b->at != NULL && room <= b->room) {
+        return;
+    }
+    if (room < 2 * b->room) {
+        room = 2 * b->room;
+    }
+    if (room < 256) {
+        room = 256;
+    }
+    at = realloc(b->at, room);
+    if (at == NULL) {
+        fail("memory");
+    }
+    b->at = at;
+    b->room = room;
+}
+
+static uint32_t word_at(const uint8_t *b)
+{
+    return (uint32_t)b[0] | (uint32_t)b[1] << 8 | (uint32_t)b[2] << 16 | (uint32_t)b[3] << 24;
+}
+
+/* The fields of a state. */
+static uint64_t cycle_of(const uint8_t *state)
+{
+    return (uint64_t)word_at(state) | (uint64_t)word_at(state + 4) << 32;
+}
+
+static uint32_t tick_of(const uint8_t *state)
+{
+    return word_at(state + 8);
+}
+
+static uint32_t kind_of(const uint8_t *state)
+{
+    return word_at(state + 20);
+}
+
+static uint32_t row_of(const uint8_t *state)
+{
+    return word_at(state + 24);
+}
+
+static struct bytes read_all(FILE *from)
+{
+    struct bytes b = { NULL, 0, 0 };
+
+    do {
+        make_room(&b, b.length + 4096);
+        b.length += fread(b.at + b.length, 1, b.room - b.length, from);
+    } while (!feof(from) && !ferror(from));
+    if (ferror(from)) {
+        fail("read");
+    }
+    return b;
+}
+
+/* Builds a lane's table after those that are there. Gives 0 where the lane is past the last one. */
+static int build_lane(const struct bytes *image, uint32_t lane, struct bytes *words)
+{
+    for (;;) {
+        uint8_t *table = words->at + words->length;
+        uint64_t answer = rd_build(image->at, image->length, lane, table, words->room - words->length);
+
+        switch (rd_answer_number(answer)) {
+        case 0:
+            words->length += 4 * (2 + 3 * (size_t)word_at(table + 4));
+            return 1;
+        case 25:
+            return 0;
+        case 26: /* too few words */
+            make_room(words, words->room + 1);
+            break;
+        default: /* the plan was accepted, and nobody has changed it */
+            errno = 0;
+            fail("build");
+        }
+    }
+}
+
+/* Builds every lane's table and starts every lane. */
+static struct tables load(const struct bytes *image, uint64_t cycle)
+{
+    struct tables t = { { NULL, 0, 0 }, { NULL, 0, 0 }, 0 };
+    size_t first = 0;
+
+    make_room(&t.words, 0);
+    make_room(&t.states, 0);
+    while (build_lane(image, t.lanes, &t.words)) {
+        make_room(&t.states, t.states.length + RD_STATE_BYTES);
+        if (first > UINT32_MAX || rd_start(cycle, (uint32_t)first, t.states.at + t.states.length, RD_STATE_BYTES) != 0) {
+            errno = 0;
+            fail("start");
+        }
+        t.states.length += RD_STATE_BYTES;
+        first = t.words.length / 4;
+        t.lanes++;
+    }
+    return t;
+}
+
+/* Steps all lanes once, and prints those that show something else than before, or all. Gives the step's number. */
+static uint32_t step(struct tables *t, uint8_t *before, int all)
+{
+    uint32_t number;
+    uint32_t lane;
+
+    memcpy(before, t->states.at, t->states.length);
+    number = rd_step_all(t->words.at, t->words.length, t->states.at, t->states.length);
+    if (number != 0) {
+        return number;
+    }
+    for (lane = 0; lane < t->lanes; lane++) {
+        const uint8_t *old = before + (size_t)RD_STATE_BYTES * lane;
+        const uint8_t *now = t->states.at + (size_t)RD_STATE_BYTES * lane;
+
+        if (all || kind_of(old) != kind_of(now) || row_of(old) != row_of(now)) {
+            printf("%" PRIu64 " %" PRIu32 " %" PRIu32 " %" PRIu32 " %" PRIu32 "\n",
+                   cycle_of(old), tick_of(old), lane, kind_of(now), row_of(now));
+        }
+    }
+    return 0;
+}
+
+static void run(struct tables *t, uint64_t cycles)
+{
+    uint8_t *before = malloc(t->states.length + 1);
+    uint64_t ticks = t->lanes == 0 ? 0 : word_at(t->words.at);
+    uint64_t cycle;
+    uint64_t tick;
+
+    if (before == NULL) {
+        fail("memory");
+    }
+    for (cycle = 0; cycle < cycles; cycle++) {
+        for (tick = 0; tick < ticks; tick++) {
+            uint32_t number = step(t, before, cycle == 0 && tick == 0);
+
+            if (number != 0) {
+                printf("step refused: %" PRIu32 "\n", number);
+                free(before);
+                return;
+            }
+        }
+    }
+    free(before);
+}
+
+static uint64_t number_of(const char *text)
+{
+    char *end;
+    unsigned long long n;
+
+    errno = 0;
+    n = strtoull(text, &end, 10);
+    if (errno != 0 || end == text || *end != '\0') {
+        fail(text);
+    }
+    return n;
+}
+
+int main(int argc, char **argv)
+{
+    uint64_t cycle = 0;
+    uint64_t cycles = 2;
+    FILE *from = stdin;
+    struct bytes image;
+    struct tables t;
+    uint64_t answer;
+    int i;
+
+    for (i = 1; i + 1 < argc && argv[i][0] == '-'; i += 2) {
+        if (strcmp(argv[i], "-c") == 0) {
+            cycle = number_of(argv[i + 1]);
+        } else if (strcmp(argv[i], "-n") == 0) {
+            cycles = number_of(argv[i + 1]);
+        } else {
+            break;
+        }
+    }
+    if (i < argc - 1 || (i < argc && argv[i][0] == '-')) {
+        fprintf(stderr, "usage: load_tool [-c CYCLE] [-n CYCLES] [FILE]\n");
+        return 2;
+    }
+    if (i < argc) {
+        from = fopen(argv[i], "rb");
+        if (from == NULL) {
+            fail(argv[i]);
+        }
+    }
+    image = read_all(from);
+    answer = rd_check(image.at, image.length);
+    printf("%" PRIu32 " %" PRIu32 " %" PRIu32 "\n", rd_answer_number(answer), rd_answer_table(answer), rd_answer_row(answer));
+    if (answer == 0) {
+        t = load(&image, cycle);
+        run(&t, cycles);
+        free(t.words.at);
+        free(t.states.at);
+    }
+    free(image.at);
+    return answer == 0 ? 0 : 1;
+}

@@ -1,0 +1,136 @@
+/*
+ * reaperdecade.h - check tunnel plans, build their dispatch tables, step them.
+ *
+ * The functions of libreaperdecade.a, for C99 and later and for C++. Each of
+ * them is proved to meet its contract: its result and every byte that it
+ * leaves are what the definitions of the plan paper give, for any bytes.
+ *
+ * Buffers. A buffer is a pointer to its first byte, which is not null, and its
+ * length in bytes, which may be 0. Any alignment will do. While a call runs,
+ * nobody else may write its buffers, nobody else may read those that it
+ * writes, and a buffer that it writes may not overlap another one. Nothing is
+ * kept between calls and no memory is allocated, so calls on buffers that are
+ * apart from each other may run at the same time.
+ *
+ * Words. A word is four bytes, the lowest first, at every length and on every
+ * machine. A part of a word at the end of a buffer of words does not count,
+ * and is never written.
+ *
+ * Refusals. Input of any length and any content is taken. A call that refuses
+ * it says why by its number and changes no byte.
+ */
+#ifndef REAPERDECADE_H
+#define REAPERDECADE_H
+
+#include <stddef.h>
+#include <stdint.h>
+
+#ifdef __cplusplus
+extern "C" {
+#endif
+
+/*
+ * An answer is number + 2^16 * table + 2^32 * row. 0 is 0 0 0, accepted. Any
+ * other number is the first question of the plan paper that is answered no,
+ * with the table and the row that it names, or 0 and 0 where it names none.
+ */
+static inline uint32_t rd_answer_number(uint64_t answer)
+{
+    return (uint32_t)(answer & 0xffffu);
+}
+
+static inline uint32_t rd_answer_table(uint64_t answer)
+{
+    return (uint32_t)((answer >> 16) & 0xffffu);
+}
+
+static inline uint32_t rd_answer_row(uint64_t answer)
+{
+    return (uint32_t)(answer >> 32);
+}
+
+/*
+ * Checks a plan image: questions 1 to 24.
+ *
+ * image      image_len bytes, which are only read.
+ *
+ * Gives the answer: 0 where every question is answered yes.
+ */
+uint64_t rd_check(const uint8_t *image, size_t image_len);
+
+/*
+ * Builds the dispatch table of one lane of a plan: questions 1 to 24 again,
+ * then 25 (is there such a lane?) and 26 (do the words suffice?).
+ *
+ * image      image_len bytes, which are only read.
+ * lane       core lanes come first, by row of the core table, then links.
+ * words      words_len bytes, of which words_len / 4 words count.
+ *
+ * Gives 0 and writes the table from the first word on: the cycle H, the number
+ * n of entries, and n entries of three words, first tick, kind and row. That
+ * is 2 + 3 * n words; later words are left as they were.
+ * Gives another answer and writes nothing where a question is answered no: 25
+ * past the last lane, 26 where there are fewer than 2 + 3 * n words.
+ *
+ * Kinds: 0 idle (row 0), 1 VCPU switch, 2 the rest of a window outside pieces
+ * (the row is a window), 3 task switch, 4 work (a piece), 5 sending (a frame).
+ */
+uint64_t rd_build(const uint8_t *image, size_t image_len, uint32_t lane, uint8_t *words, size_t words_len);
+
+/*
+ * A lane's state is 28 bytes, the lowest byte of each number first:
+ *
+ *     byte   0   8 bytes   cycle
+ *            8   4         tick
+ *           12   4         entry of the lane's table
+ *           16   4         first word of the lane's table, counted in words
+ *           20   4         kind last shown
+ *           24   4         row last shown
+ */
+#define RD_STATE_BYTES 28
+
+/*
+ * Starts a lane: tick 0, entry 0, kind 0 and row 0 of a cycle.
+ *
+ * cycle      any.
+ * first      the index of the word at which the lane's table begins; any.
+ * state      state_len bytes.
+ *
+ * Gives 0 and writes the state. Gives 27 and writes nothing where state_len is
+ * not 28.
+ */
+uint32_t rd_start(uint64_t cycle, uint32_t first, uint8_t *state, size_t state_len);
+
+/*
+ * Steps one lane by one tick. The state's kind and row are then those of the
+ * tick that it leaves, and its cycle, tick and entry those of the next one.
+ * After tick H - 1 come tick 0 and entry 0 of the next cycle.
+ *
+ * words      words_len bytes: the tables of all lanes, as built. They are only
+ *            read, and of them only the table's head, the state's entry and
+ *            the first tick of the next one.
+ * state      state_len bytes.
+ *
+ * Gives 0 and writes the state. Gives a refusal's number and writes nothing:
+ * 27 where the state does not fit its words or state_len is not 28, 28 at the
+ * last tick of cycle 2^64 - 1, where the calendar ends.
+ */
+uint32_t rd_step(const uint8_t *words, size_t words_len, uint8_t *state, size_t state_len);
+
+/*
+ * Steps all lanes by one tick, or none of them.
+ *
+ * words      as for rd_step.
+ * states     states_len bytes: a row of states, 28 bytes each. A shorter last
+ *            one is a state that does not fit (27).
+ *
+ * Gives 0, also for no states, and writes every state. Gives the number of the
+ * lowest state that is refused, 27 or 28, and writes nothing.
+ */
+uint32_t rd_step_all(const uint8_t *words, size_t words_len, uint8_t *states, size_t states_len);
+
+#ifdef __cplusplus
+}
+#endif
+
+#endif
