@@ -2,12 +2,13 @@
 // include/reaperdecade.h declares the functions for C.
 ghost use mathlib.Core.Path.{_≡_};
 ghost use mathlib.Core.Bool.{true};
-ghost use Prim.Native.Nat.{_+_, _≤_};
+ghost use Prim.Native.Nat.{_+_, _<_, _≤_};
 ghost use lib.ListN.{length, getD, take, drop};
 ghost use lib.Seq.{sets};
-ghost use Rattle.plan.specs.Boundary.{wordsOf, bytesOf, stateOf, stateBytes, startNumber, startBytes, stepNumber, stepBytes, stepAllNumber, stepAllBytes};
+ghost use Rattle.plan.specs.Boundary.{answerNumber, checkNumber, wordsOf, bytesOf, stateOf, stateBytes, startNumber, startBytes, stepNumber, stepBytes, stepAllNumber, stepAllBytes};
 ghost use Rattle.steps.specs.Lookups.{lookup};
 ghost use Rattle.reaperdecade.specs.Entries.{hasEntry};
+use plan::Answer;
 use plan::LaneState;
 use steps::Lookup;
 use steps::ends_calendar;
@@ -219,4 +220,20 @@ pub extern "C" fn rd_step_all(words: &[u8], states: &mut [u8]) -> u32
     }
     move_all(words, states);
     0
+}
+
+// An answer in one number.
+fn packed(answer: Answer) -> u64
+    requires { ⌜ (answer .number < 65536) × (answer .table < 65536) ⌝ }
+    ensures { λ r. ⌜ r ≡ answerNumber answer ⌝ }
+{
+    answer.number as u64 + 65536 * answer.table as u64 + 4294967296 * answer.row as u64
+}
+
+// Checks an image.
+#[no_mangle]
+pub extern "C" fn rd_check(image: &[u8]) -> u64
+    ensures { λ r. ⌜ r ≡ checkNumber (now (image .entry)) ⌝ }
+{
+    packed(questions::check(image))
 }
