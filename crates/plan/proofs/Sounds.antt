@@ -1,15 +1,17 @@
--- What questions 1 to 6 show: the image is sound (specs/Held).
+-- What questions 1 to 6 show: the image is sound (specs/Held). An accepted plan's is.
 use Prim.Native.Nat.{ℕ, _+_, _*_, _≤_, _<_}
 use mathlib.Core.Path.{_≡_, refl, sym, ap, _∙_, subst}
-use mathlib.Core.List.{List, _∷_, []}
+use mathlib.Core.List.{List, _∷_, _++_, []}
 use native.Mathlib.Omega.{arith}
 use lib.ListN.{length}
 use Rattle.plan.specs.declared.Table.{Table}
 use Rattle.plan.specs.declared.Table.the-variants.{Cores, Vcpus, Tasks, Windows, Pieces, Links, Streams, Frames, Buffers}
 use Rattle.plan.specs.Image.{tables, shape, rows, offset, tableEnd, trailerAt, trailerBytes, cycleTicks, precision}
-use Rattle.plan.specs.Reading.{AllHold, imageMeanings, whole, eachTable, Laid, Names, InRange}
+use Rattle.plan.specs.Questions.{answerOf, accepted}
+use Rattle.plan.specs.Reading.{AllHold, Holds, meanings, imageMeanings, planMeanings, whole, eachTable, Laid, Names, InRange}
 use Rattle.plan.specs.Held.{InImage, Sound}
-use Rattle.plan.proofs.Facts.{tableRows}
+use Rattle.plan.proofs.Meanings.{accepted-means}
+use Rattle.plan.proofs.Facts.{left, right, tableRows}
 
 module _ (s : List ℕ) where
   -- each table's rows are in bounds, and it ends where the trailer begins, or before
@@ -69,3 +71,11 @@ module _ (s : List ℕ) where
         names = tableRows s 5 (Names s) n;
         ranges = tableRows s 6 (InRange s) r;
       }
+
+  pub accepted-sound : answerOf s ≡ accepted → Sound s
+  unfolding Holds meanings
+  accepted-sound e =
+      let im = imageMeanings s in let m5 = eachTable s 5 tables (Names s) in let m6 = eachTable s 6 tables (InRange s) in
+      let h = left (im ++ m5 ++ m6) (planMeanings s) (accepted-means s .0 e) in
+      let p = left (im ++ m5) m6 h in
+      sound (left im m5 p) (right im m5 p) (right (im ++ m5) m6 h)

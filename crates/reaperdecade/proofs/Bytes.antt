@@ -11,7 +11,7 @@ use Rattle.plan.specs.declared.LaneState.{LaneState}
 
 -- ---- a number's bytes
 
-bytes-length : (n x : ℕ) → length (bytesOf n x) ≡ n
+pub bytes-length : (n x : ℕ) → length (bytesOf n x) ≡ n
 unfolding bytesOf
 bytes-length zero x = refl
 bytes-length (suc n) x = ap suc (bytes-length n (x / 256))

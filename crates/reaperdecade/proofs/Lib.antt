@@ -5,3 +5,4 @@ pub mod Records
 pub mod States
 pub mod Runs
 pub mod Answers
+pub mod Loads

@@ -17,19 +17,17 @@ use Rattle.plan.specs.Boundary.{wordsOf, stateBytes, stepNumber, stepBytes, ste
 use Rattle.plan.specs.Runs.{Call, allLanes, oneLane, gives, leaves, after}
 use Rattle.plan.specs.declared.LaneState.{LaneState}
 use Rattle.plan.specs.declared.Stepped.{Stepped}
+use Rattle.reaperdecade.specs.Loaded.{AreBytes, rowBytes, givesBytes, leavesBytes, afterBytes}
 use Rattle.steps.specs.Lookups.{lookup, fitsTable}
 use Rattle.steps.proofs.Deciding.{fitting}
 use Rattle.reaperdecade.proofs.Words.{words-length, words-at}
 use Rattle.reaperdecade.proofs.Bytes.{state-length}
-use Rattle.reaperdecade.proofs.States.{InWidth, AllInWidth, rowBytes, step-of-bytes, step-all-of-bytes}
+use Rattle.reaperdecade.proofs.States.{InWidth, AllInWidth, step-of-bytes, step-all-of-bytes}
 
 abbrev none : LaneState
 none = startState 0 0
 
 -- ---- a step keeps a state's fields in their widths
-
-abbrev pub AreBytes : List ℕ → Type 0
-AreBytes b = (i : ℕ) → getD b i 0 < 256
 
 abbrev AreWords : List ℕ → Type 0
 AreWords words = (i : ℕ) → getD words i 0 < 2 ^ 32
@@ -167,20 +165,6 @@ module _ (sts : List LaneState) (l : ℕ) (h : l < length sts) where
       ∙ (rw (take-row l sts, rest-after) refl)
 
 -- ---- calls
-
-module _ (ws : List ℕ) where
-  -- a call through C over a row of bytes: of all records, or of the 28 bytes of one
-  unfoldable pub givesBytes : List ℕ → Call → ℕ
-  givesBytes row allLanes = stepAllNumber ws row
-  givesBytes row (oneLane l) = stepNumber ws (take 28 (drop (28 * l) row))
-
-  unfoldable pub leavesBytes : List ℕ → Call → List ℕ
-  leavesBytes row allLanes = stepAllBytes ws row
-  leavesBytes row (oneLane l) = take (28 * l) row ++ stepBytes ws (take 28 (drop (28 * l) row)) ++ drop (28 * l + 28) row
-
-  unfoldable pub afterBytes : List ℕ → List Call → List ℕ
-  afterBytes row [] = row
-  afterBytes row (c ∷ cs) = afterBytes (leavesBytes row c) cs
 
 -- calls of all lanes and of lanes that there are
 abbrev pub Among : ℕ → Call → Type 0

@@ -12,6 +12,7 @@ use lib.Seq.{take-at, drop-at}
 use Rattle.plan.specs.Image.{wordAt}
 use Rattle.plan.specs.Dispatch.{fits, calendarEnds, moved, step, startState, refusal, stepAll}
 use Rattle.plan.specs.Boundary.{wordsOf, bytesOf, stateOf, stateBytes, startNumber, startBytes, stepNumber, stepBytes, recordsOf, refusedNumber, stepAllNumber, stepAllBytes}
+use Rattle.reaperdecade.specs.Loaded.{rowBytes}
 use Rattle.plan.specs.declared.LaneState.{LaneState}
 use Rattle.plan.specs.declared.Stepped.{Stepped}
 use Rattle.reaperdecade.proofs.Bytes.{state-length}
@@ -29,10 +30,10 @@ pub record InWidth (st : LaneState) : Type 0 where
   pub row : st .row < 2 ^ 32
 
 -- four bytes of a number, read as a word
-abbrev low : ℕ → ℕ
+abbrev pub low : ℕ → ℕ
 low x = x % 256 + 256 * (x / 256 % 256) + 65536 * (x / 256 / 256 % 256) + 16777216 * (x / 256 / 256 / 256 % 256)
 
-low-word : (x : ℕ) → x < 2 ^ 32 → low x ≡ x
+pub low-word : (x : ℕ) → x < 2 ^ 32 → low x ≡ x
 low-word x h = omega arith
 
 low-high : (x : ℕ) → low x + 2 ^ 32 * (x / 256 / 256 / 256 / 256) ≡ x
@@ -108,10 +109,6 @@ module _ (ws : List ℕ) where
       (sym (s .0), ap (stepNumber ws) (sym (s .1)) ∙ k .0, ap (stepBytes ws) (sym (s .1)) ∙ k .1)
 
 -- ---- all lanes
-
--- the bytes of a row of states
-abbrev pub rowBytes : List LaneState → List ℕ
-rowBytes sts = flatMap stateBytes sts
 
 abbrev pub AllInWidth : List LaneState → Type 0
 AllInWidth [] = Unit {0}
