@@ -1,10 +1,11 @@
 -- A lane's table in lent bytes: H, n and the entries; refused by the check, 25, 26, or done.
 use Prim.Native.Nat.{ℕ, _+_, _*_, _/_, _≤_, _<_}
-use mathlib.Core.Path.{_≡_, refl, sym, ap, _∙_}
+use mathlib.Core.Path.{_≡_, refl, ap, _∙_}
 use mathlib.Core.Logic.{_≢_}
-use mathlib.Core.List.{List, _∷_, _++_, []}
+use mathlib.Core.List.{List, _∷_, []}
 use native.Mathlib.Omega.{arith}
 use lib.ListN.{length}
+use lib.Seq.{sets}
 use borrow.Author.Tests.{ne-eqb}
 use Rattle.plan.specs.declared.Answer.{Answer}
 use Rattle.plan.specs.Image.{cycleTicks}
@@ -13,7 +14,6 @@ use Rattle.plan.specs.Dispatch.{lanes, entries, entryCount, tableOf, buildAnswe
 use Rattle.plan.specs.Boundary.{bytesOf, wordsOf, buildBytes}
 use Rattle.plan.proofs.Tables.{entries-length}
 use Rattle.lanes.proofs.Building.{build-refused, build-no-lane, build-short, build-done}
-use lib.Seq.{sets}
 use Rattle.writing.specs.Stored.{stored, Built}
 use Rattle.writing.proofs.Words.{words-length}
 use Rattle.writing.proofs.Storing.{stored-one, stored-after, stored-before, stored-front}
