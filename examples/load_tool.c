@@ -10,7 +10,7 @@
  * cycles, and prints `cycle tick lane kind row` wherever a lane shows
  * something else than at the tick before.
  *
- *     cc -std=c99 -Iinclude -o load_tool examples/load_tool.c libreaperdecade.a
+ *     gcc -std=c99 -Iinclude -o load_tool examples/load_tool.c target/staticlib/libreaperdecade.a
  */
 #include <errno.h>
 #include <inttypes.h>

@@ -4,7 +4,6 @@
  * The functions of libreaperdecade.a, for C99 and later and for C++. Each of
  * them is proved to meet its contract: its result and every byte that it
  * leaves are what the definitions of the plan paper give, for any bytes.
- * (rd_build is declared here and is not in the library yet.)
  *
  * Buffers. A buffer is a pointer to its first byte, which is not null, and its
  * length in bytes, which may be 0. Any alignment will do. While a call runs,

@@ -118,7 +118,7 @@ fn nearest(image: &[u8], occupant: Occupant, place: u32, tick: u32) -> Near
 }
 
 // What a lane shows for a while: one row, as kind `kind` before tick `turn` and as kind `later` from it on, up to tick `until`.
-struct Stretch {
+pub struct Stretch {
     kind: u32,
     later: u32,
     row: u32,
@@ -266,17 +266,17 @@ fn segment_at(stretch: Stretch, tick: u32) -> Segment
 
 // A walk along a lane, from segment to segment. From tick `from` up to `until` the lane shows `kind` and `row`; `begins` says whether
 // an entry begins at `from`; `stretch` is what is known from `until` on.
-struct Walk {
-    from: u32,
-    until: u32,
-    kind: u32,
-    row: u32,
-    begins: bool,
+pub struct Walk {
+    pub from: u32,
+    pub until: u32,
+    pub kind: u32,
+    pub row: u32,
+    pub begins: bool,
     stretch: Stretch,
 }
 
 // Before tick 0: nothing is shown, and nothing is known.
-fn start() -> Walk
+pub fn start() -> Walk
     ensures { λ r. ⌜ r ≡ startWalk ⌝ }
 {
     let stretch = idle_stretch(0);
@@ -291,7 +291,7 @@ fn start() -> Walk
 }
 
 // The next segment. An entry begins at tick 0, and where kind or row are not those of the segment before.
-fn step(image: &[u8], lane: u32, walk: Walk) -> Walk
+pub fn step(image: &[u8], lane: u32, walk: Walk) -> Walk
     requires { ⌜ (answerOf (now image) ≡ accepted) × (Reached (now image) lane walk × (walk .until < cycleTicks (now image))) ⌝ }
     ensures { λ r. ⌜ StepFrom (now (image .entry)) lane (walk .until) r ⌝ }
 {
@@ -312,7 +312,7 @@ fn step(image: &[u8], lane: u32, walk: Walk) -> Walk
 }
 
 // n, the number of a lane's entries.
-fn count_entries(image: &[u8], lane: u32) -> u32
+pub fn count_entries(image: &[u8], lane: u32) -> u32
     requires { ⌜ answerOf (now image) ≡ accepted ⌝ }
     ensures { λ r. ⌜ r ≡ entryCount (now (image .entry)) lane ⌝ }
 {

@@ -1,20 +1,15 @@
--- Numbers and states as bytes: how many, and what is stored.
-use Prim.Native.Nat.{ℕ, zero, suc, _+_, _*_, _/_, _%_, _^_}
+-- Numbers and states as bytes: eight bytes are two words, and a state's words stored.
+use Prim.Native.Nat.{ℕ, _+_, _*_, _/_, _%_, _^_}
 use mathlib.Core.Path.{_≡_, refl, sym, ap, _∙_}
-use mathlib.Core.List.{List, _∷_, _++_, [], append-nil}
-use native.Mathlib.Nat.{add-zero}
+use mathlib.Core.List.{List, _++_, append-nil}
 use native.Mathlib.Omega.{arith}
-use lib.ListN.{length, set, length-append, drop-of-length-le}
+use lib.ListN.{length, length-append, drop-of-length-le}
 use lib.Seq.{sets, sets-eq}
 use Rattle.plan.specs.Boundary.{bytesOf, stateBytes}
 use Rattle.plan.specs.declared.LaneState.{LaneState}
+use Rattle.writing.proofs.Bytes.{bytes-length, sets-append}
 
 -- ---- a number's bytes
-
-pub bytes-length : (n x : ℕ) → length (bytesOf n x) ≡ n
-unfolding bytesOf
-bytes-length zero x = refl
-bytes-length (suc n) x = ap suc (bytes-length n (x / 256))
 
 digit : (x r k : ℕ) → x ≡ r + 256 * k → (r % 256 ≡ x % 256) × (x / 256 ≡ r / 256 + k)
 digit x r k e = (omega arith, omega arith)
@@ -31,25 +26,6 @@ two-words x =
     let d = digit (x / 256 / 256 / 256) (r / 256 / 256 / 256) q (omega (arith, c .1)) in
     let e : x / 2 ^ 32 ≡ x / 256 / 256 / 256 / 256 = omega arith in
     rw (a .0, b .0, c .0, d .0, e) refl
-
--- four bytes stored one by one
-pub word-stored :
-    (l : List ℕ) (i x : ℕ)
-    → set (set (set (set l i (x % 256)) (i + 1) (x / 256 % 256)) (i + 2) (x / 65536 % 256)) (i + 3) (x / 16777216 % 256) ≡ sets l i (bytesOf 4 x)
-unfolding bytesOf
-word-stored l i x =
-    let a : i + 1 ≡ suc i = omega arith in
-    let b : i + 2 ≡ suc (suc i) = omega arith in
-    let c : i + 3 ≡ suc (suc (suc i)) = omega arith in
-    let d : x / 65536 ≡ x / 256 / 256 = omega arith in
-    let e : x / 16777216 ≡ x / 256 / 256 / 256 = omega arith in
-    rw (a, b, c, d, e) refl
-
-sets-append : (vs ws l : List ℕ) (i : ℕ) → sets l i (vs ++ ws) ≡ sets (sets l i vs) (i + length vs) ws
-sets-append [] ws l i = rw (add-zero i) refl
-sets-append (v ∷ vs) ws l i =
-    let e : suc i + length vs ≡ i + suc (length vs) = omega arith in
-    sets-append vs ws (set l i v) (suc i) ∙ ap (λ (k : ℕ). sets (sets (set l i v) (suc i) vs) k ws) e
 
 -- ---- a state's bytes
 

@@ -26,8 +26,8 @@ use Rattle.plan.proofs.Sounds.{accepted-sound}
 use Rattle.plan.proofs.Tests.{with-row, without-row, no-count}
 use Rattle.plan.proofs.Demand.{demand-3}
 use Rattle.reaperdecade.specs.Loaded.{Loaded, rowBytes, givesBytes, afterBytes, BytesRun, Demand3ThroughC}
-use Rattle.reaperdecade.proofs.Words.{words-length, words-at}
-use Rattle.reaperdecade.proofs.Bytes.{bytes-length, state-length}
+use Rattle.writing.proofs.Words.{words-length, words-at}
+use Rattle.writing.proofs.Bytes.{bytes-length, row-length}
 use Rattle.reaperdecade.proofs.States.{InWidth, AllInWidth, low, low-word, round-trip}
 use Rattle.reaperdecade.proofs.Runs.{Among, AllAmong, calls-of-bytes}
 
@@ -136,14 +136,9 @@ flat-at (x ∷ xs) (suc i) j h k =
     ∙ getD-append-add (bytesOf 4 x) (flatMap (bytesOf 4) xs) (4 * i + j) 0
     ∙ flat-at xs i j (le-of-suc-le-suc h) k
 
-flat-length : (t : List ℕ) → length (flatMap (bytesOf 4) t) ≡ 4 * length t
-unfolding flatMap
-flat-length [] = refl
-flat-length (x ∷ xs) = length-append (bytesOf 4 x) (flatMap (bytesOf 4) xs) ∙ omega (arith, bytes-length 4 x, flat-length xs)
-
 module _ (ws t : List ℕ) (w : ℕ) (held : take (4 * length t) (drop (4 * w) ws) ≡ flatMap (bytesOf 4) t) where
   room : min (4 * length t) (length ws - 4 * w) ≡ 4 * length t
-  room = rw (← length-drop (4 * w) ws, ← length-take) (ap length held ∙ flat-length t)
+  room = rw (← length-drop (4 * w) ws, ← length-take) (ap length held ∙ row-length t)
 
   byte : (i j : ℕ) → i < length t → j < 4 → getD ws (4 * (w + i) + j) 0 ≡ getD (bytesOf 4 (getD t i 0)) j 0
   byte i j h k =

@@ -20,7 +20,7 @@ use Rattle.plan.specs.declared.Stepped.{Stepped}
 use Rattle.reaperdecade.specs.Loaded.{AreBytes, rowBytes, givesBytes, leavesBytes, afterBytes}
 use Rattle.steps.specs.Lookups.{lookup, fitsTable}
 use Rattle.steps.proofs.Deciding.{fitting}
-use Rattle.reaperdecade.proofs.Words.{words-length, words-at}
+use Rattle.writing.proofs.Words.{words-length, words-at}
 use Rattle.reaperdecade.proofs.Bytes.{state-length}
 use Rattle.reaperdecade.proofs.States.{InWidth, AllInWidth, step-of-bytes, step-all-of-bytes}
 

@@ -2,10 +2,9 @@
 // include/reaperdecade.h declares the functions for C.
 ghost use mathlib.Core.Path.{_≡_};
 ghost use mathlib.Core.Bool.{true};
-ghost use Prim.Native.Nat.{_+_, _<_, _≤_};
+ghost use Prim.Native.Nat.{_<_, _≤_};
 ghost use lib.ListN.{length, getD, take, drop};
-ghost use lib.Seq.{sets};
-ghost use Rattle.plan.specs.Boundary.{answerNumber, checkNumber, wordsOf, bytesOf, stateOf, stateBytes, startNumber, startBytes, stepNumber, stepBytes, stepAllNumber, stepAllBytes};
+ghost use Rattle.plan.specs.Boundary.{answerNumber, checkNumber, buildNumber, buildBytes, wordsOf, stateOf, stateBytes, startNumber, startBytes, stepNumber, stepBytes, stepAllNumber, stepAllBytes};
 ghost use Rattle.steps.specs.Lookups.{lookup};
 ghost use Rattle.reaperdecade.specs.Entries.{hasEntry};
 use plan::Answer;
@@ -15,6 +14,7 @@ use steps::ends_calendar;
 use steps::fits_table;
 use steps::state_after;
 use tables::word;
+use writing::put_word;
 
 // How many bytes a state takes.
 const STATE: usize = 28;
@@ -81,17 +81,6 @@ fn state_of(bytes: &[u8]) -> LaneState
         kind: word(bytes, 20),
         row: word(bytes, 24),
     }
-}
-
-// Writes a word from byte i on, the lowest byte first.
-fn put_word(bytes: &mut [u8], i: usize, x: u32)
-    requires { ⌜ i + 4 ≤ length (now bytes) ⌝ }
-    ensures { λ _. ⌜ now (bytes .exit) ≡ sets (now (bytes .entry)) i (bytesOf 4 x) ⌝ }
-{
-    bytes[i] = (x % 256) as u8;
-    bytes[i + 1] = (x / 256 % 256) as u8;
-    bytes[i + 2] = (x / 65536 % 256) as u8;
-    bytes[i + 3] = (x / 16777216 % 256) as u8;
 }
 
 // Writes a state into a record of 28 bytes.
@@ -236,4 +225,13 @@ pub extern "C" fn rd_check(image: &[u8]) -> u64
     ensures { λ r. ⌜ r ≡ checkNumber (now (image .entry)) ⌝ }
 {
     packed(questions::check(image))
+}
+
+// Builds a lane's table: asks 1 to 24, then 25 and 26, and writes H, n and the entries as words. Later bytes, and all bytes after a
+// refusal, stay as they are.
+#[no_mangle]
+pub extern "C" fn rd_build(image: &[u8], lane: u32, words: &mut [u8]) -> u64
+    ensures { λ r. ⌜ (r ≡ buildNumber (now (image .entry)) lane (now (words .entry))) × (now (words .exit) ≡ buildBytes (now (image .entry)) lane (now (words .entry))) ⌝ }
+{
+    packed(writing::build(image, lane, words))
 }

@@ -1,6 +1,6 @@
 use Rattle.plan.specs.Dispatch.{tableEntries}
 use Rattle.reaperdecade.specs.Entries.{hasEntry}
-use Rattle.reaperdecade.proofs.Words.{words-length}
+use Rattle.writing.proofs.Words.{words-length}
 use borrow.Author.Needs.{needs}
 use Rattle.reaperdecade.proofs.has_entry.Statement.{statement}
 use Rattle.reaperdecade.proofs.has_entry.Tie as tie

@@ -2,7 +2,7 @@ use Prim.Native.Nat.{_+_}
 use native.Mathlib.Omega.{arith}
 use Rattle.plan.specs.Boundary.{wordsOf}
 use Rattle.steps.proofs.Reading.{looked-up, entryAt}
-use Rattle.reaperdecade.proofs.Words.{words-length, words-at}
+use Rattle.writing.proofs.Words.{words-length, words-at}
 use Rattle.reaperdecade.proofs.Entries.{entry-inside}
 use borrow.Author.Needs.{needs}
 use Rattle.reaperdecade.proofs.look_up.Statement.{statement}

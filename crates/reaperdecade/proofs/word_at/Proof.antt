@@ -2,7 +2,7 @@ use mathlib.Core.Path.{sym}
 use native.Mathlib.Omega.{arith}
 use lib.ListN.{List·getD-eq-default}
 use Rattle.plan.specs.Boundary.{wordsOf}
-use Rattle.reaperdecade.proofs.Words.{words-length, words-at}
+use Rattle.writing.proofs.Words.{words-length, words-at}
 use borrow.Author.Needs.{needs}
 use Rattle.reaperdecade.proofs.word_at.Statement.{statement}
 use Rattle.reaperdecade.proofs.word_at.Tie as tie

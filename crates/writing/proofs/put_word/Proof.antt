@@ -1,9 +1,9 @@
 use native.Mathlib.Omega.{arith}
 use lib.ListN.{length-set}
-use Rattle.reaperdecade.proofs.Bytes.{word-stored}
+use Rattle.writing.proofs.Bytes.{word-stored}
 use borrow.Author.Needs.{needs}
-use Rattle.reaperdecade.proofs.put_word.Statement.{statement}
-use Rattle.reaperdecade.proofs.put_word.Tie as tie
+use Rattle.writing.proofs.put_word.Statement.{statement}
+use Rattle.writing.proofs.put_word.Tie as tie
 
 cast-bytes : tie.Need-cast-bytes
 cast-bytes c = search needs

@@ -1,0 +1,110 @@
+// Tables in bytes (paper 01, "What the product covers" and "Dispatch"; questions 25 and 26): a lane's table written into lent bytes as
+// little-endian words, entry by entry as the walk along the lane finds them.
+ghost use mathlib.Core.Path.{_≡_};
+ghost use mathlib.Core.List.{_∷_, []};
+ghost use Prim.Native.Nat.{_+_, _*_, _<_, _≤_};
+ghost use lib.ListN.{length};
+ghost use lib.Seq.{sets};
+ghost use Rattle.plan.specs.Image.{cycleTicks};
+ghost use Rattle.plan.specs.Questions.{answerOf, accepted};
+ghost use Rattle.plan.specs.Dispatch.{lanes, entryCount, entries, tableOf};
+ghost use Rattle.plan.specs.Boundary.{bytesOf};
+ghost use Rattle.writing.specs.Stored.{stored, Built};
+use building::lane_count;
+use lanes::count_entries;
+use lanes::start;
+use lanes::step;
+use plan::Answer;
+use tables::cycle_ticks;
+
+// Writes a word from byte i on, the lowest byte first.
+pub fn put_word(bytes: &mut [u8], i: usize, x: u32)
+    requires { ⌜ i + 4 ≤ length (now bytes) ⌝ }
+    ensures { λ _. ⌜ now (bytes .exit) ≡ sets (now (bytes .entry)) i (bytesOf 4 x) ⌝ }
+{
+    bytes[i] = (x % 256) as u8;
+    bytes[i + 1] = (x / 256 % 256) as u8;
+    bytes[i + 2] = (x / 65536 % 256) as u8;
+    bytes[i + 3] = (x / 16777216 % 256) as u8;
+}
+
+// An entry from byte `at` on: first tick, kind, row.
+fn put_entry(bytes: &mut [u8], at: usize, first: u32, kind: u32, row: u32)
+    requires { ⌜ at + 12 ≤ length (now bytes) ⌝ }
+    ensures { λ _. ⌜ now (bytes .exit) ≡ stored (now (bytes .entry)) at (first ∷ kind ∷ row ∷ []) ⌝ }
+{
+    put_word(bytes, at, first);
+    put_word(bytes, at + 4, kind);
+    put_word(bytes, at + 8, row);
+}
+
+// A lane's entries from byte `at` on. Gives n, how many they are.
+fn write_entries(image: &[u8], lane: u32, bytes: &mut [u8], at: usize) -> u32
+    requires { ⌜ (answerOf (now image) ≡ accepted) × (at + 12 * entryCount (now image) lane ≤ length (now bytes)) ⌝ }
+    ensures { λ r. ⌜ (r ≡ entryCount (now (image .entry)) lane) × (now (bytes .exit) ≡ stored (now (bytes .entry)) at (entries (now (image .entry)) lane (cycleTicks (now (image .entry))))) ⌝ }
+{
+    let end = cycle_ticks(image);
+    let mut walk = start();
+    let mut count: u32 = 0;
+    while walk.until < end {
+        walk = step(image, lane, walk);
+        if walk.begins {
+            put_entry(
+                bytes,
+                at + 12 * count as usize,
+                walk.from,
+                walk.kind,
+                walk.row,
+            );
+            count += 1;
+        }
+    }
+    count
+}
+
+// A lane's table from byte `at` on: H, n and the entries. Gives n.
+fn write_table(image: &[u8], lane: u32, bytes: &mut [u8], at: usize) -> u32
+    requires { ⌜ (answerOf (now image) ≡ accepted) × (at + 4 * (2 + 3 * entryCount (now image) lane) ≤ length (now bytes)) ⌝ }
+    ensures { λ r. ⌜ (r ≡ entryCount (now (image .entry)) lane) × (now (bytes .exit) ≡ stored (now (bytes .entry)) at (tableOf (now (image .entry)) lane)) ⌝ }
+{
+    let count = write_entries(image, lane, bytes, at + 8);
+    put_word(bytes, at, cycle_ticks(image));
+    put_word(bytes, at + 4, count);
+    count
+}
+
+// 26, and the table of a lane of an accepted plan where the words suffice. A part of a word at the end does not count.
+fn fill(image: &[u8], lane: u32, bytes: &mut [u8]) -> Answer
+    requires { ⌜ (answerOf (now image) ≡ accepted) × (lane < lanes (now image)) ⌝ }
+    ensures { λ r. ⌜ Built (now (image .entry)) lane (now (bytes .entry)) r (now (bytes .exit)) ⌝ }
+{
+    let count = count_entries(image, lane);
+    if bytes.len() / 4 < 2 + 3 * count as usize {
+        return Answer {
+            number: 26,
+            table: 0,
+            row: 0,
+        };
+    }
+    write_table(image, lane, bytes, 0);
+    plan::accepted()
+}
+
+// Builds a lane's table: asks 1 to 24, then 25 and 26, and writes H, n and the entries from byte 0 on. Later bytes, and all bytes after
+// a refusal, stay as they are.
+pub fn build(image: &[u8], lane: u32, bytes: &mut [u8]) -> Answer
+    ensures { λ r. ⌜ Built (now (image .entry)) lane (now (bytes .entry)) r (now (bytes .exit)) ⌝ }
+{
+    let answer = questions::check(image);
+    if answer.number != 0 {
+        return answer;
+    }
+    if lane_count(image) <= lane {
+        return Answer {
+            number: 25,
+            table: 0,
+            row: 0,
+        };
+    }
+    fill(image, lane, bytes)
+}
