@@ -12,7 +12,7 @@ mod edit;
 use peer::boundary::{Peer, STATE};
 use peer::harness::{Difference, Lent, Pair};
 use peer::library::Library;
-use peer::{lanes, Rng};
+use peer::{tables, Rng};
 
 extern "C" {
     fn watch_blocks();
@@ -80,7 +80,9 @@ struct Choices {
 
 impl Choices {
     fn of(tail: [u8; TAIL]) -> Choices {
-        let (state, rest) = tail.split_first_chunk().expect("a tail begins with a state");
+        let (state, rest) = tail
+            .split_first_chunk()
+            .expect("a tail begins with a state");
         let pair = |at: usize| u16::from_le_bytes([rest[at], rest[at + 1]]);
         Choices {
             state: *state,
@@ -145,18 +147,17 @@ impl Run<'_> {
 
     /// Builds every lane of an accepted plan, then starts and steps them.
     fn accepted(&mut self, image: &[u8]) -> Result<(), Difference> {
-        let lanes = lanes(image).expect("the peer accepts");
-        let chosen = usize::from(self.choices.lane) % lanes.len();
-        let bytes = |lane: usize| 4 * (2 + 3 * lanes[lane].len());
+        let tables = tables(image).expect("the peer accepts");
+        let chosen = usize::from(self.choices.lane) % tables.len();
         let spare = isize::from(self.choices.spare);
-        let room = bytes(chosen).saturating_add_signed(spare);
+        let room = (4 * tables[chosen].len()).saturating_add_signed(spare);
         self.build(image, chosen as u32, room)?;
         let mut words = Vec::new();
         let mut firsts = Vec::new();
-        for lane in 0..lanes.len() {
+        for (lane, table) in (0..).zip(&tables) {
             firsts.push((words.len() / 4) as u32);
-            let table = self.build(image, lane as u32, bytes(lane))?;
-            words.extend_from_slice(table.part());
+            let built = self.build(image, lane, 4 * table.len())?;
+            words.extend_from_slice(built.part());
         }
         self.walk(&words, &firsts)?;
         self.step_at(&words, firsts[chosen])

@@ -28,4 +28,4 @@ pub use histogram::Histogram;
 pub use image::Plan;
 pub use report::report;
 pub use rng::Rng;
-pub use table::{build, lanes, Entry};
+pub use table::{build, lanes, tables, Entry};

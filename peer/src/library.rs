@@ -13,12 +13,7 @@ extern "C" {
     ) -> u64;
     fn rd_start(cycle: u64, first: u32, state: *mut u8, state_len: usize) -> u32;
     fn rd_step(words: *const u8, words_len: usize, state: *mut u8, state_len: usize) -> u32;
-    fn rd_step_all(
-        words: *const u8,
-        words_len: usize,
-        states: *mut u8,
-        states_len: usize,
-    ) -> u32;
+    fn rd_step_all(words: *const u8, words_len: usize, states: *mut u8, states_len: usize) -> u32;
 }
 
 /// The library under test.

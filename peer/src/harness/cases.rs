@@ -5,10 +5,10 @@ use super::pair::{Difference, Pair};
 use crate::boundary::{write_state, write_words, STATE};
 use crate::dispatch::{start, State};
 use crate::generate;
-use crate::image::{set_word, Plan, TRAILER, WORD};
+use crate::image::{set_word, TRAILER, WORD};
 use crate::mutate::{mutant, mutate};
 use crate::rng::Rng;
-use crate::table::{lanes, Entry};
+use crate::table::tables;
 
 /// What a case came to.
 pub struct Outcome {
@@ -28,7 +28,7 @@ pub fn run(case: u64, large: bool, pair: &mut Pair, rng: &mut Rng) -> Result<Out
     let before = lent.clone();
     let number = (pair.check(lent.part())? & 0xFFFF) as u32;
     if number == 0 {
-        let tables = tables(&image);
+        let tables = tables(&image).expect("our own check accepts");
         build_all(pair, lent.part(), &tables, rng)?;
         Run::new(pair, &tables, rng)?.run(pair, rng)?;
     } else {
@@ -42,17 +42,6 @@ pub fn run(case: u64, large: bool, pair: &mut Pair, rng: &mut Rng) -> Result<Out
     }
     noise_steps(pair, rng)?;
     Ok(Outcome { number, is_mutant })
-}
-
-/// The tables of all lanes of an image that our own check accepts.
-fn tables(image: &[u8]) -> Vec<Vec<u32>> {
-    let cycle = Plan::decode(image).cycle;
-    let lanes = lanes(image).expect("our own check accepts");
-    let table = |entries: &Vec<Entry>| {
-        let head = [cycle, entries.len() as u32];
-        [&head, entries.as_flattened()].concat()
-    };
-    lanes.iter().map(table).collect()
 }
 
 /// An image, and whether it is a mutant. Most are.
