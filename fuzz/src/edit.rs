@@ -1,8 +1,8 @@
 //! Changes of inputs that keep the image's layout, beside libFuzzer's own.
 //!
 //! libFuzzer changes bytes. Most such changes of an image end at questions 2
-//! and 3, so half of the time rows are changed instead and the image is laid
-//! out anew.
+//! and 3, so three times in five rows are changed instead, where the image
+//! has any, and it is laid out anew.
 
 use peer::image::Plan;
 use peer::{check, mutate, Rng};
