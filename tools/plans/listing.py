@@ -127,8 +127,7 @@ def _message_lines(plan, message):
         title = f"hop {step.hop} {plan.name('frame', step.frame)} on {link}"
         yield [title, shown(step.ready), step.start, step.end, slack(step.start, step.ready)]
     yield _end_line(plan, "receiver", message.receiver, message.ready)
-    latency = "latency " + span(0, shown(message.latency)) + f" of {message.limit}"
-    yield [latency, "", "", "", slack(message.limit, message.latency)]
+    yield [f"latency {shown(message.latency)} of {message.limit}", "", "", "", slack(message.limit, message.latency)]
 
 
 def _end_line(plan, role, job, ready):
