@@ -44,12 +44,15 @@ def explained(plan, answer):
     """The answer in words, with the row by name."""
     if answer.accepted:
         return f"accepted ({answer})"
-    return f"refused ({answer}), {row_title(plan, answer)}question {answer.number}: not so that {wording(answer.number)}"
+    return f"refused ({answer}){row_title(plan, answer)}; no to question {answer.number}: {wording(answer.number)}"
 
 
 def row_title(plan, answer):
     """The row that an answer names, or nothing."""
-    return f"{answer.kind} {plan.name(answer.kind, answer.row)}, " if answer.kind else ""
+    if not answer.kind:
+        return ""
+    name = plan.name(answer.kind, answer.row)
+    return f" at {name}" if name.startswith(answer.kind) else f" at {answer.kind} {name}"
 
 
 def place_of(plan, answer):

@@ -10,7 +10,7 @@ from .image import encode
 from .listing import listing
 from .picture.drawing import View, picture
 from .reading import read_text
-from .troubles import Trouble
+from .troubles import Trouble, meant, trouble
 from .writing import write_text
 
 
@@ -106,6 +106,18 @@ def run_picture(options):
     plan, answer = load(options.plan), options.answer
     if options.plancheck and not answer:
         answer = ask(options.plancheck, encode(plan))
-    view = View(options.first, options.last, options.lanes, options.width)
-    drawn = picture(plan, Path(options.plan).stem, answer, view)
+    drawn = picture(plan, Path(options.plan).stem, answer, view_of(options, plan))
     write_whole(options.out, drawn.encode())
+
+
+def view_of(options, plan):
+    """The view that options ask for; lanes and ticks have to be there."""
+    names = options.lanes.split(",") if options.lanes else None
+    known = plan.names.all["core"] + plan.names.all["link"]
+    for name in names or ():
+        if name not in known:
+            raise trouble(options.plan, f"no core or link is named '{name}'" + meant(name, known))
+    first, last = options.first or 0, options.last
+    if first < 0 or last is not None and last <= first:
+        raise trouble(options.plan, f"no ticks from {first} to {last}")
+    return View(options.first, last, names, options.width)

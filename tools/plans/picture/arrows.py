@@ -1,31 +1,47 @@
 """Messages as arrows: sender's last end, each hop's frame, receiver's first start."""
 from .style import fitting
 
-HEADS_UP_TO = 400  # arrows; more are drawn without heads
+MANY = 250  # arrows; more are drawn faint and without heads
 
 
 def draw_arrows(scene):
+    """Marked arrows last."""
     lines = [line for stream in range(len(scene.plan.rows["stream"])) for line in stream_lines(scene, stream)]
-    lines = [line for line in lines if _in_view(scene, line)]
-    heads = len(lines) <= HEADS_UP_TO
-    for _, marked, ((x1, y1), (x2, y2)), title in sorted(lines, key=lambda line: line[1]):
-        more = {"marker_end": "url(#amh)" if marked else "url(#ah)"} if heads else {}
-        scene.svg.line("am" if marked else "a", scene.scale.x(x1), y1, scene.scale.x(x2), y2, title, **more)
+    lines = [line for line in lines if _in_view(scene.scale, line[1])]
+    for marked, ends, title in sorted(lines, key=lambda line: line[0]):
+        _draw_arrow(scene, marked, ends, title, len(lines) > MANY)
 
 
-def _in_view(scene, line):
-    (start, _), (end, _) = line[2]
-    return scene.scale.first <= min(start, end) and max(start, end) <= scene.scale.last
+def _in_view(scale, ends):
+    (one, _), (other, _) = ends
+    return min(one, other) <= scale.last and max(one, other) >= scale.first
+
+
+def _draw_arrow(scene, marked, ends, title, faint):
+    """A line, cut at the edges of the view, with a head where its end is in view."""
+    look = "am" if marked else "a faint" if faint else "a"
+    head = "amh" if marked else "ah"
+    inside = scene.scale.first <= ends[1][0] <= scene.scale.last
+    more = {"marker_end": f"url(#{head})"} if inside and (marked or not faint) else {}
+    (x1, y1), (x2, y2) = (_point(scene.scale, ends, end) for end in ends)
+    scene.svg.line(look, x1, y1, x2, y2, title, **more)
+
+
+def _point(scale, ends, end):
+    """Where a line between two (tick, y) is at one of them, or at the edge of the view before that."""
+    (tick, y), ((left, y1), (right, y2)) = end, sorted(ends)
+    seen = min(max(tick, scale.first), scale.last)
+    return scale.x(seen), y if seen == tick else y1 + (y2 - y1) * (seen - left) / (right - left)
 
 
 def stream_lines(scene, stream):
-    """Arrows as (stream, marked, ((tick, y), (tick, y)), title)."""
+    """Arrows as (marked, ((tick, y), (tick, y)), title)."""
     marked, name = scene.marks.has("stream", stream), scene.plan.name("stream", stream)
     for message in scene.meaning.messages(stream):
         title = f"{name} job {message.job}"
         stops = [stop for stop in _stops(scene, message) if stop]
         for (_, leaves, lane), (arrives, _, other) in zip(stops, stops[1:]):
-            yield stream, marked, _ends(leaves, lane, arrives, other), title
+            yield marked, _ends(leaves, lane, arrives, other), title
 
 
 def _ends(leaves, lane, arrives, other):

@@ -1,6 +1,27 @@
 """Windows, pieces, frames and holds as blocks in their lanes."""
-from .lanes import tracks_of
-from .style import SMALL, TINTS, WINDOW_TINTS, fitting, text_width
+from dataclasses import dataclass
+
+from .lanes import hold_tracks, tracks_of
+from .style import FONT, SMALL, TINTS, WINDOW_TINTS, fitting, text_width
+
+THIN = 3  # pixels; narrower blocks have no outline
+SHIFT = 5  # pixels by which a block that meets another one stands lower
+LEAST_SWITCH = 0.6  # pixels; shorter switches are not drawn
+
+
+@dataclass
+class Block:
+    """A row's ticks in a lane: what it is called, which ticks its switch takes, how it looks."""
+
+    kind: str
+    row: int
+    lane: object
+    start: int
+    end: int
+    charge: int
+    title: str
+    labels: tuple
+    look: str
 
 
 def tint(task):
@@ -8,106 +29,114 @@ def tint(task):
 
 
 def draw_blocks(scene):
-    """Marked blocks last, so that nothing hides them."""
-    for kind, draw in (("window", window), ("piece", piece), ("frame", frame)):
-        rows = range(len(scene.plan.rows[kind]))
-        for number in sorted(rows, key=lambda number: scene.marks.has(kind, number)):
-            draw(scene, number)
-    tracks = tracks_of(scene.holds)
-    for each in scene.holds:
-        hold(scene, each, tracks[each])
+    """Kind by kind; marked blocks last, so that nothing hides them."""
+    for describe, draw in ((windows, draw_window), (pieces, draw_piece), (frames, draw_piece)):
+        blocks = [block for block in describe(scene) if block.lane and scene.scale.shows(block.start, block.end)]
+        tracks = tracks_of([(id(block.lane), block.start, block.end, block.row) for block in blocks])
+        for block in sorted(blocks, key=lambda block: (scene.marks.has(block.kind, block.row), tracks[block.row])):
+            draw(scene, block, SHIFT * min(tracks[block.row], 2))
+    tracks = hold_tracks(scene.holds)
+    for hold in scene.holds:
+        draw_hold(scene, hold, tracks[hold])
 
 
-def _place(scene, lane, start, end):
-    """Left edge and width of ticks in view, or None."""
-    if lane is None or not scene.scale.shows(start, end):
-        return None
-    left = scene.scale.x(start)
-    return left, scene.scale.x(end) - left
+def windows(scene):
+    plan, meaning = scene.plan, scene.meaning
+    for number, row in enumerate(plan.rows["window"]):
+        lane, end = scene.lanes.get("core", meaning.core_of_window(number)), row.start + row.length
+        vcpu, charge = plan.name("vcpu", row.vcpu), min(meaning.window_charge(number), row.length)
+        title = f"{plan.name('window', number)} of {vcpu}: {row.start}..{end}, VCPU switch {charge}"
+        look = f"w w{row.vcpu % len(WINDOW_TINTS)}"
+        yield Block("window", number, lane, row.start, end, charge, title, (vcpu,), look)
 
 
-def _label(scene, x, width, y, labels, classes):
-    label = fitting(width, *labels)
+def pieces(scene):
+    plan, meaning = scene.plan, scene.meaning
+    for number, row in enumerate(plan.rows["piece"]):
+        lane, end = scene.lanes.get("core", meaning.core_of_piece(number)), row.start + row.length
+        task, charge = plan.name("task", row.task), min(meaning.piece_charge(row.task), row.length)
+        title = f"{plan.name('piece', number)}: {task} job {row.job}, {row.start}..{end}, task switch {charge}"
+        yield Block("piece", number, lane, row.start, end, charge, title, (f"{task}.{row.job}", task), f"p {tint(row.task)}")
+
+
+def frames(scene):
+    plan, meaning = scene.plan, scene.meaning
+    for number, row in enumerate(plan.rows["frame"]):
+        lane, end = scene.lanes.get("link", row.link), row.start + meaning.frame_ticks(number)
+        stream, name = plan.row("stream", row.stream), plan.name("stream", row.stream)
+        title = f"{plan.name('frame', number)}: {name} job {row.job} hop {row.hop}, {row.start}..{end}"
+        labels = (f"{name}.{row.job} hop {row.hop}", f"{name}.{row.job}", name, f"h{row.hop}")
+        yield Block("frame", number, lane, row.start, end, 0, title, labels, f"p {tint(stream.sender if stream else 0)}")
+
+
+def draw_window(scene, block, shift):
+    """The whole height of the lane; the VCPU's name stands in a strip above the pieces."""
+    lane, y = block.lane, block.lane.top + 1 + shift
+    marked = scene.marks.has("window", block.row)
+    x, width = _rect(scene, block, y, lane.track_height - 2 - shift, marked)
+    if not marked:
+        _switch(scene, block, y, lane.track_height - 2 - shift, "v")
+    label = "" if lane.low else fitting(width, *block.labels, size=SMALL)
     if label:
-        scene.svg.text(classes + " mid", x + width / 2, y + 4, label)
+        scene.svg.rect("hs", x + 2, y + 2, text_width(label, SMALL) + 2, SMALL + 2)
+        scene.svg.text("small", x + 3, y + SMALL + 2, label)
+    if marked:
+        _pointer(scene, x + min(width / 2, 14), lane.top + 4)
 
 
-def _arrowhead_above(scene, x, y):
+def draw_piece(scene, block, shift):
+    """A piece or a frame: a switch if it has one, then its label."""
+    lane, marked = block.lane, scene.marks.has(block.kind, block.row)
+    y, height = lane.block() + shift, lane.block_height - shift
+    x, width = _rect(scene, block, y, height, marked)
+    head = _switch(scene, block, y, height, "d")
+    _label(scene, x + head, width - head, y, height, block.labels, marked)
+    if marked:
+        _pointer(scene, x + width / 2, y)
+
+
+def draw_hold(scene, hold, track):
+    lane = scene.lanes.get("buffer", (hold.node, hold.number))
+    if not lane or not scene.scale.shows(hold.start, hold.end):
+        return
+    row, name = scene.plan.rows["buffer"][hold.row], scene.plan.name("buffer", hold.row)
+    tasks = f"{scene.plan.name('task', row.writer)} → {scene.plan.name('task', row.reader)}"
+    title = f"{name} (buffer {hold.number}, node {hold.node}), job {hold.job}: {tasks}, {hold.start}..{hold.end}"
+    labels = (f"{name}.{hold.job}: {tasks}", f"{name}.{hold.job}", str(hold.number))
+    block, marked = Block("buffer", hold.row, lane, hold.start, hold.end, 0, title, labels, "h"), scene.marks.has("buffer", hold.row)
+    x, width = _rect(scene, block, lane.block(track), lane.block_height, marked)
+    _label(scene, x, width, lane.block(track), lane.block_height, labels, marked)
+    if marked:
+        _pointer(scene, x + 12, lane.block(track) + 3)
+
+
+def _rect(scene, block, y, height, marked):
+    """The block itself; gives its left edge and width."""
+    x = scene.scale.x(block.start)
+    width = scene.scale.x(block.end) - x
+    thin = " thin" if width < THIN else ""
+    scene.svg.rect("m" if marked else block.look + thin, x, y, width, height, block.title)
+    return x, width
+
+
+def _switch(scene, block, y, height, classes):
+    """The switch ticks at a block's start; gives their width."""
+    left, right = scene.scale.x(block.start), scene.scale.x(block.start + block.charge)
+    if right - left < LEAST_SWITCH:
+        return 0
+    scene.svg.rect(classes, left, y, right - left, height)
+    return right - left
+
+
+def _label(scene, x, width, y, height, labels, marked):
+    """The first label that fits, in letters as large as fit."""
+    for size, classes in ((FONT, "mid"), (SMALL, "mid less")):
+        label = fitting(width, *labels, size=size) if size <= height else ""
+        if label:
+            scene.svg.text(classes + " halo" if marked else classes, x + width / 2, y + height / 2 + size / 2.8, label)
+            return
+
+
+def _pointer(scene, x, y):
     """A mark over a block, which can be seen where the block itself is narrow."""
     scene.svg.path("mt", f"M{x - 6:.1f} {y - 11:.1f}h12l-6 10z")
-
-
-def window(scene, number):
-    plan, row, svg = scene.plan, scene.plan.rows["window"][number], scene.svg
-    lane = scene.lanes.get("core", scene.meaning.core_of_window(number))
-    place = _place(scene, lane, row.start, row.start + row.length)
-    if not place:
-        return
-    (x, width), marked = place, scene.marks.has("window", number)
-    y, height = lane.top + 1, lane.track_height - 2
-    vcpu = plan.name("vcpu", row.vcpu)
-    title = f"{plan.name('window', number)} of {vcpu}: {row.start}..{row.start + row.length}"
-    svg.rect("w m" if marked else f"w w{row.vcpu % len(WINDOW_TINTS)}", x, y, width, height, title)
-    charge = min(scene.meaning.window_charge(number), row.length)
-    switch = _place(scene, lane, row.start, row.start + charge) if charge else None
-    if switch and not marked:
-        svg.rect("v", switch[0], y, switch[1], height, f"VCPU switch to {vcpu}: {row.start}..{row.start + charge}")
-    label = "" if lane.low else fitting(width, vcpu, size=SMALL)
-    if label:
-        svg.rect("hs", x + 2, y + 2, text_width(label, SMALL) + 2, SMALL + 2)
-        svg.text("small", x + 3, y + SMALL + 2, label)
-    if marked:
-        _arrowhead_above(scene, x + min(width / 2, 14), lane.top + 4)
-
-
-def piece(scene, number):
-    plan, row, svg = scene.plan, scene.plan.rows["piece"][number], scene.svg
-    lane = scene.lanes.get("core", scene.meaning.core_of_piece(number))
-    end = row.start + row.length
-    place = _place(scene, lane, row.start, end)
-    if not place:
-        return
-    (x, width), marked = place, scene.marks.has("piece", number)
-    task, name = plan.name("task", row.task), plan.name("piece", number)
-    charge = min(scene.meaning.piece_charge(row.task), row.length)
-    title = f"{name}: {task} job {row.job}, {row.start}..{end}, work from {row.start + charge}"
-    svg.rect("p m" if marked else f"p {tint(row.task)}", x, lane.block(), width, lane.block_height, title)
-    switch = _place(scene, lane, row.start, row.start + charge) if charge else None
-    if switch:
-        svg.rect("d", switch[0], lane.block(), switch[1], lane.block_height, f"task switch to {task}: {row.start}..{row.start + charge}")
-    head = switch[1] if switch else 0
-    _label(scene, x + head, width - head, lane.middle(), [f"{task}.{row.job}", task], "halo" if marked else "")
-    if marked:
-        _arrowhead_above(scene, x + width / 2, lane.block())
-
-
-def frame(scene, number):
-    plan, row, svg = scene.plan, scene.plan.rows["frame"][number], scene.svg
-    lane, end = scene.lanes.get("link", row.link), row.start + scene.meaning.frame_ticks(number)
-    place = _place(scene, lane, row.start, end)
-    if not place:
-        return
-    (x, width), marked = place, scene.marks.has("frame", number)
-    stream, sender = plan.name("stream", row.stream), plan.row("stream", row.stream)
-    title = f"{plan.name('frame', number)}: {stream} job {row.job} hop {row.hop}, {row.start}..{end}"
-    svg.rect("p m" if marked else f"p {tint(sender.sender if sender else 0)}", x, lane.block(), width, lane.block_height, title)
-    labels = [f"{stream}.{row.job} hop {row.hop}", f"{stream}.{row.job}", stream, f"h{row.hop}"]
-    _label(scene, x, width, lane.middle(), labels, "halo" if marked else "")
-    if marked:
-        _arrowhead_above(scene, x + width / 2, lane.block())
-
-
-def hold(scene, each, track):
-    lane = scene.lanes.get("buffer", (each.node, each.number))
-    place = _place(scene, lane, each.start, each.end)
-    if not place:
-        return
-    (x, width), marked = place, scene.marks.has("buffer", each.row)
-    row, name = scene.plan.rows["buffer"][each.row], scene.plan.name("buffer", each.row)
-    tasks = f"{scene.plan.name('task', row.writer)} → {scene.plan.name('task', row.reader)}"
-    title = f"{name} (buffer {each.number}, node {each.node}), job {each.job}: {tasks}, {each.start}..{each.end}"
-    scene.svg.rect("h m" if marked else "h", x, lane.block(track), width, lane.block_height, title)
-    labels = [f"{name}.{each.job}: {tasks}", f"{name}.{each.job}", str(each.number)]
-    _label(scene, x, width, lane.middle(track), labels, "halo" if marked else "")
-    if marked:
-        _arrowhead_above(scene, x + 12, lane.block(track) + 3)

@@ -10,7 +10,7 @@ TITLE_WIDTH = 980
 
 
 class View:
-    """What of a plan to draw: ticks, lanes (names joined by commas), width; None for all of it."""
+    """What of a plan to draw: ticks, names of cores and links, width; None for all of it."""
 
     def __init__(self, first=None, last=None, lanes=None, width=None):
         self.first = first

@@ -75,18 +75,22 @@ def link_lanes(plan):
 
 def buffer_lanes(holds):
     """A lane for each buffer that has a hold; holds that overlap stand in tracks of their own."""
-    tracks = tracks_of(holds)
+    tracks = hold_tracks(holds)
     for node, number in sorted({(hold.node, hold.number) for hold in holds}):
         deepest = max(track for hold, track in tracks.items() if (hold.node, hold.number) == (node, number))
         yield Lane("buffer", (node, number), f"buffer {number} · node {node}", "", tracks=deepest + 1)
 
 
-def tracks_of(holds):
-    """A track for each hold, so that holds of one buffer in one track never overlap."""
+def hold_tracks(holds):
+    return tracks_of([((hold.node, hold.number), hold.start, hold.end, hold) for hold in holds])
+
+
+def tracks_of(spans):
+    """A track for each (place, start, end, item), so that items of one place in one track never overlap."""
     ends, tracks = {}, {}
-    for hold in sorted(holds, key=lambda hold: hold.start):
-        free = ends.setdefault((hold.node, hold.number), [])
-        track = next((number for number, end in enumerate(free) if end <= hold.start), len(free))
-        free[track:track + 1] = [hold.end]
-        tracks[hold] = track
+    for place, start, end, item in sorted(spans, key=lambda span: span[1]):
+        free = ends.setdefault(place, [])
+        track = next((number for number, last in enumerate(free) if last <= start), len(free))
+        free[track:track + 1] = [end]
+        tracks[item] = track
     return tracks

@@ -3,7 +3,7 @@ from statistics import median
 
 LEAST_WIDTH, MOST_WIDTH = 900, 3000
 PIXELS_OF_MIDDLE = 7  # of a row of middle length, where the width allows
-LABEL_GAP = 58
+LABEL_GAP = 44
 
 
 class Scale:

@@ -18,20 +18,26 @@ class Scene:
         self.meaning = Meaning(plan)
         self.marks = Marks(plan, self.meaning, answer)
         self.svg = Svg()
-        self.holds = self.meaning.holds()
+        first, last = self._ticks(options)
+        self.holds = [hold for hold in self.meaning.holds() if hold.start < last and hold.end > first]
         lanes = self._chosen(options.lanes)
         for lane in lanes:
             lane.label = cut(lane.label, LONGEST_LABEL)
             lane.jobs = lane.kind == "core" and lane.key in self._cores_with_marked_jobs()
-        self.scale = self._scale(options, lanes)
+        self.scale = Scale(first, last, self._left(lanes), options.width or self._width(first, last))
         self.lanes = Lanes(lanes, top)
 
     def _chosen(self, names):
-        lanes = [*core_lanes(self.plan), *link_lanes(self.plan), *buffer_lanes(self.holds)]
-        if not names:
-            return lanes
-        wanted = set(names.split(","))
-        return [lane for lane in lanes if lane.kind == "buffer" or self.plan.name(lane.kind, lane.key) in wanted]
+        """Cores and links by name, all if none is named, and the buffers whose writer or reader is on such a core."""
+        lanes = [*core_lanes(self.plan), *link_lanes(self.plan)]
+        if names:
+            lanes = [lane for lane in lanes if self.plan.name(lane.kind, lane.key) in names]
+        cores = {lane.key for lane in lanes if lane.kind == "core"}
+        return [*lanes, *buffer_lanes([hold for hold in self.holds if cores & self._cores_of(hold)])]
+
+    def _cores_of(self, hold):
+        row = self.plan.rows["buffer"][hold.row]
+        return {self.meaning.core_of_task(row.writer), self.meaning.core_of_task(row.reader)}
 
     def marked_jobs(self):
         """The (task, job) pairs whose release and due ticks are drawn: those of a marked task or piece."""
@@ -48,16 +54,21 @@ class Scene:
     def _cores_with_marked_jobs(self):
         return {self.meaning.core_of_task(task) for task, _ in self.marked_jobs()}
 
-    def _scale(self, options, lanes):
-        plan, meaning = self.plan, self.meaning
-        spans = [(row.start, row.length) for kind in ("window", "piece") for row in plan.rows[kind]]
-        frames = [(row.start, meaning.frame_ticks(number)) for number, row in enumerate(plan.rows["frame"])]
-        ends = [start + length for start, length in spans + frames]
-        first, last = view_of(plan.cycle, ends, options.first, options.last)
-        lengths = [row.length for row in plan.rows["piece"]] + [length for _, length in frames]
+    def _ticks(self, options):
+        spans = [row for kind in ("window", "piece") for row in self.plan.rows[kind]]
+        ends = [row.start + row.length for row in spans]
+        ends += [row.start + self.meaning.frame_ticks(number) for number, row in enumerate(self.plan.rows["frame"])]
+        return view_of(self.plan.cycle, ends, options.first, options.last)
+
+    def _width(self, first, last):
+        lengths = [row.length for row in self.plan.rows["piece"]]
+        lengths += [self.meaning.frame_ticks(number) for number in range(len(self.plan.rows["frame"]))]
+        return width_of(first, last, lengths)
+
+    @staticmethod
+    def _left(lanes):
         labels = [text_width(lane.label, FONT) for lane in lanes] + [text_width(lane.detail, SMALL) for lane in lanes]
-        left = LEFT + max(labels, default=0) + 10
-        return Scale(first, last, left, options.width or width_of(first, last, lengths))
+        return LEFT + max(labels, default=0) + 10
 
     @property
     def width(self):

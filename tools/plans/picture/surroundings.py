@@ -1,16 +1,7 @@
 """Title, axis, lane labels and legend."""
 from .style import FONT, SMALL, text_width
 
-LEGEND = (
-    ("w w0", "window"),
-    ("v", "VCPU switch (v)"),
-    ("d", "task switch (d)"),
-    ("p t0", "work, or a frame in its sender's colour"),
-    ("h", "hold of a buffer"),
-    ("m", "the row refused, or what belongs to it"),
-    ("past", "past the cycle"),
-)
-LINES = (("delay", "link delay"), ("p-wait", "P"), ("a", "message"))
+LINES = ("delay", "p-wait", "a")
 TITLE_LINE = 18
 
 
@@ -60,18 +51,33 @@ def draw_labels(scene):
             scene.svg.text("small end", x, y + 7, lane.detail)
 
 
+def legend(scene):
+    """Looks with their meaning, those that the plan has use for."""
+    yield from (("w w0", "window"), ("v", "VCPU switch (v)"), ("d", "task switch (d)"))
+    if scene.plan.rows["frame"]:
+        yield from (("p t0", "work, or a frame in its sender's colour"), ("delay", "link delay"), ("p-wait", "P"), ("a", "message"))
+    else:
+        yield "p t0", "work"
+    if scene.holds:
+        yield "h", "hold of a buffer"
+    if scene.marks.answer and not scene.marks.answer.accepted:
+        yield "m", "the row refused, or what belongs to it"
+    if scene.scale.last > scene.plan.cycle:
+        yield "past", "past the cycle"
+
+
 def draw_legend(scene):
     """The legend under the lanes; gives the picture's height."""
     x, y = 12, scene.lanes.bottom + 40
-    for number, (classes, text) in enumerate(LEGEND + LINES):
-        width = 24 + text_width(text) + 22
+    for classes, text in legend(scene):
+        width = 24 + text_width(text) + 10
         if x + width > scene.width and x > 12:
             x, y = 12, y + 20
-        if number < len(LEGEND):
-            scene.svg.rect(classes, x, y - 10, 18, 12)
-        else:
+        if classes in LINES:
             more = {"marker_end": "url(#ah)"} if classes == "a" else {}
             scene.svg.line(classes, x, y - 4, x + 18, y - 4, **more)
+        else:
+            scene.svg.rect(classes, x, y - 10, 18, 12)
         scene.svg.text("", x + 24, y, text)
         x += width
     return y + FONT + 6

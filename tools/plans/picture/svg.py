@@ -9,10 +9,11 @@ def short(number):
 
 
 class Svg:
-    """Elements in drawing order, each with a class that the style names."""
+    """Elements in drawing order, each with a class that the style names; texts stand above all shapes."""
 
     def __init__(self):
         self.parts = []
+        self.texts = []
 
     def _element(self, name, classes, title, **attributes):
         shown = "".join(
@@ -32,9 +33,9 @@ class Svg:
         self._element("path", classes, title, d=steps, **more)
 
     def text(self, classes, x, y, text):
-        self.parts.append(f'<text class={quoteattr(classes)} x="{short(x)}" y="{short(y)}">{escape(text)}</text>')
+        self.texts.append(f'<text class={quoteattr(classes)} x="{short(x)}" y="{short(y)}">{escape(text)}</text>')
 
     def document(self, width, height, style, definitions):
         head = f'<svg xmlns="http://www.w3.org/2000/svg" width="{short(width)}" height="{short(height)}"'
         head += f' viewBox="0 0 {short(width)} {short(height)}">'
-        return "\n".join([head, f"<style>{style}</style>", f"<defs>{definitions}</defs>", *self.parts, "</svg>", ""])
+        return "\n".join([head, f"<style>{style}</style>", f"<defs>{definitions}</defs>", *self.parts, *self.texts, "</svg>", ""])
