@@ -8,7 +8,7 @@ from .answers import ask, explained, parse, place_of
 from .files import as_text, is_text, load, load_image, read_bytes, write_whole
 from .image import encode
 from .listing import listing
-from .picture.drawing import View, picture
+from .picture.drawing import View, near, picture
 from .reading import read_text
 from .troubles import Trouble, meant, trouble
 from .writing import write_text
@@ -47,6 +47,7 @@ def parser():
     _asks_checker(command, None)
     command.add_argument("--from", dest="first", type=int, metavar="TICK", help="first tick to draw")
     command.add_argument("--to", dest="last", type=int, metavar="TICK", help="where to stop drawing")
+    command.add_argument("--near", type=int, metavar="TICKS", help="draw what the answer names and so many ticks around it")
     command.add_argument("--lanes", metavar="NAMES", help="draw only these cores and links, joined by commas")
     command.add_argument("--width", type=int, metavar="PIXELS", help="width of the lanes")
     return top
@@ -106,18 +107,19 @@ def run_picture(options):
     plan, answer = load(options.plan), options.answer
     if options.plancheck and not answer:
         answer = ask(options.plancheck, encode(plan))
-    drawn = picture(plan, Path(options.plan).stem, answer, view_of(options, plan))
+    drawn = picture(plan, Path(options.plan).stem, answer, view_of(options, plan, answer))
     write_whole(options.out, drawn.encode())
 
 
-def view_of(options, plan):
+def view_of(options, plan, answer):
     """The view that options ask for; lanes and ticks have to be there."""
     names = options.lanes.split(",") if options.lanes else None
     known = plan.names.all["core"] + plan.names.all["link"]
     for name in names or ():
         if name not in known:
             raise trouble(options.plan, f"no core or link is named '{name}'" + meant(name, known))
-    first, last = options.first or 0, options.last
+    around = near(plan, answer, options.near) if options.near is not None and answer else None
+    first, last = around or (options.first or 0, options.last)
     if first < 0 or last is not None and last <= first:
         raise trouble(options.plan, f"no ticks from {first} to {last}")
-    return View(options.first, last, names, options.width)
+    return View(first, last, names, options.width)

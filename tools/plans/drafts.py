@@ -65,12 +65,14 @@ class Drafts:
         self.settings.put(place, words)
 
     def _add(self, place, table, words):
+        """A row counts also where its line is bad, so that no other line is blamed for it."""
+        draft = Draft(table, place, broken=True)
+        self.rows[table.kind].append(draft)
         name, words = split_name(words)
         twin = name and self._named(table.kind, name)
-        draft = Draft(table, place, name)
-        self.rows[table.kind].append(draft)
         if twin:
             raise BadValue(f"{twin.title()} stands already at {twin.place}")
+        draft.name, draft.broken = name, False
         draft.put(place, words)
 
     def _named(self, kind, name):

@@ -94,6 +94,10 @@ class Meaning:
     def core_of_piece(self, piece):
         return self.core_of_task(self.plan.rows["piece"][piece].task)
 
+    def link_of_frame(self, frame):
+        link = self.plan.rows["frame"][frame].link
+        return link if self.plan.row("link", link) else None
+
     def window_charge(self, window):
         """The VCPU switch ticks at a window's start."""
         core = self.core_of_window(window)

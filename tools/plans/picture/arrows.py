@@ -25,6 +25,7 @@ def _draw_arrow(scene, marked, ends, title, faint):
     more = {"marker_end": f"url(#{head})"} if inside and (marked or not faint) else {}
     (x1, y1), (x2, y2) = (_point(scene.scale, ends, end) for end in ends)
     scene.svg.line(look, x1, y1, x2, y2, title, **more)
+    scene.marks_drawn += marked
 
 
 def _point(scale, ends, end):
@@ -56,7 +57,7 @@ def _stops(scene, message):
     """(first tick, tick from which the next may start, lane) of sender, hops and receiver."""
     yield _job_stop(scene, message.sender)
     for step in message.steps:
-        lane = scene.lanes.get("link", scene.plan.rows["frame"][step.frame].link)
+        lane = scene.lanes.get("link", scene.meaning.link_of_frame(step.frame))
         yield lane and (step.start, step.arrival, lane)
     yield _job_stop(scene, message.receiver)
 
@@ -72,7 +73,7 @@ def draw_travels(scene):
     for number, frame in enumerate(scene.plan.rows["frame"]):
         lane, link = scene.lanes.get("link", frame.link), scene.plan.row("link", frame.link)
         end = frame.start + scene.meaning.frame_ticks(number)
-        if lane and scale.shows(end, end + link.delay + precision):
+        if lane and link and scale.shows(end, end + link.delay + precision):
             there, y = end + link.delay, lane.middle()
             scene.svg.line("delay", scale.x(end), y, scale.x(there), y)
             scene.svg.line("p-wait", scale.x(there), y, scale.x(there + precision), y)

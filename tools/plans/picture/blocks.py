@@ -62,7 +62,7 @@ def pieces(scene):
 def frames(scene):
     plan, meaning = scene.plan, scene.meaning
     for number, row in enumerate(plan.rows["frame"]):
-        lane, end = scene.lanes.get("link", row.link), row.start + meaning.frame_ticks(number)
+        lane, end = scene.lanes.get("link", meaning.link_of_frame(number)), row.start + meaning.frame_ticks(number)
         stream, name = plan.row("stream", row.stream), plan.name("stream", row.stream)
         title = f"{plan.name('frame', number)}: {name} job {row.job} hop {row.hop}, {row.start}..{end}"
         labels = (f"{name}.{row.job} hop {row.hop}", f"{name}.{row.job}", name, f"h{row.hop}")
@@ -115,7 +115,8 @@ def _rect(scene, block, y, height, marked):
     x = scene.scale.x(block.start)
     width = scene.scale.x(block.end) - x
     thin = " thin" if width < THIN else ""
-    scene.svg.rect("m" if marked else block.look + thin, x, y, width, height, block.title)
+    scene.svg.rect(("m" if marked else block.look) + thin, x, y, width, height, block.title)
+    scene.marks_drawn += marked
     return x, width
 
 

@@ -63,14 +63,26 @@ class Lanes:
 
 
 def core_lanes(plan):
+    """A lane for each core, by row."""
     for number, core in enumerate(plan.rows["core"]):
         yield Lane("core", number, f"{plan.name('core', number)} · node {core.node}", f"d {core.d}, v {core.v}")
 
 
 def link_lanes(plan):
+    """A lane for each link, by row."""
     for number, link in enumerate(plan.rows["link"]):
         nodes = f"{link.from_node}→{link.to_node}"
         yield Lane("link", number, f"{plan.name('link', number)} · {nodes}", f"delay {link.delay}")
+
+
+def stray_lanes(plan, meaning):
+    """Lanes for windows, pieces and frames that name rows which do not exist."""
+    windows, pieces, frames = (range(len(plan.rows[kind])) for kind in ("window", "piece", "frame"))
+    cores = {*map(meaning.core_of_window, windows), *map(meaning.core_of_piece, pieces)}
+    if None in cores:
+        yield Lane("core", None, "on no core", "")
+    if None in map(meaning.link_of_frame, frames):
+        yield Lane("link", None, "on no link", "")
 
 
 def buffer_lanes(holds):

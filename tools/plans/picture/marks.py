@@ -15,6 +15,9 @@ class Marks:
     def has(self, kind, row):
         return row in self.rows[kind]
 
+    def records(self, plan, kind):
+        return [record for number, record in enumerate(plan.rows[kind]) if self.has(kind, number)]
+
     def where(self, plan, kind, test):
         """Marks the rows of a kind that pass a test of number and record."""
         self.rows[kind] |= {number for number, record in enumerate(plan.rows[kind]) if test(number, record)}

@@ -1,6 +1,6 @@
 """What all parts of a picture share: plan, meaning, marks, scale, lanes and the SVG they draw on."""
 from ..meaning import Meaning
-from .lanes import Lanes, buffer_lanes, core_lanes, link_lanes
+from .lanes import Lanes, buffer_lanes, core_lanes, link_lanes, stray_lanes
 from .marks import Marks
 from .scale import Scale, view_of, width_of
 from .style import FONT, SMALL, cut, text_width
@@ -18,6 +18,7 @@ class Scene:
         self.meaning = Meaning(plan)
         self.marks = Marks(plan, self.meaning, answer)
         self.svg = Svg()
+        self.marks_drawn = 0
         first, last = self._ticks(options)
         self.holds = [hold for hold in self.meaning.holds() if hold.start < last and hold.end > first]
         lanes = self._chosen(options.lanes)
@@ -30,7 +31,9 @@ class Scene:
     def _chosen(self, names):
         """Cores and links by name, all if none is named, and the buffers whose writer or reader is on such a core."""
         lanes = [*core_lanes(self.plan), *link_lanes(self.plan)]
-        if names:
+        if not names:
+            lanes += stray_lanes(self.plan, self.meaning)
+        else:
             lanes = [lane for lane in lanes if self.plan.name(lane.kind, lane.key) in names]
         cores = {lane.key for lane in lanes if lane.kind == "core"}
         return [*lanes, *buffer_lanes([hold for hold in self.holds if cores & self._cores_of(hold)])]

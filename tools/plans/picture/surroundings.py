@@ -18,7 +18,9 @@ def wrapped(text, width, size):
 
 
 def draw_title(scene, title, verdict, accepted):
-    scene.svg.text("head", 12, 24, title)
+    """The title and the verdict; says so where nothing of the refused row is drawn."""
+    unseen = verdict and not accepted and scene.marks.answer.kind and not scene.marks_drawn
+    scene.svg.text("head", 12, 24, title + (" (nothing of the refused row lies in this picture)" if unseen else ""))
     for number, line in enumerate(verdict):
         scene.svg.text("yes" if accepted else "no", 12, 24 + TITLE_LINE * (number + 1), line)
 
@@ -47,6 +49,7 @@ def draw_labels(scene):
         marked = lane.kind != "buffer" and scene.marks.has(lane.kind, lane.key)
         detail = lane.detail and not lane.low
         scene.svg.text("ml end" if marked else "end", x, y - (5 if detail else 0), lane.label)
+        scene.marks_drawn += marked
         if detail:
             scene.svg.text("small end", x, y + 7, lane.detail)
 
