@@ -56,8 +56,6 @@ def decode(image):
     (last,) = unpack(image[-WORD_BYTES:])
     if last != trailer:
         raise BadValue(f"no readable image (question 2): the last word is {last}, not {trailer}")
-    if trailer % WORD_BYTES:
-        raise BadValue(f"no readable image (question 3): {len(image)} bytes are no whole words")
     words = unpack(image[trailer:])
     settings, places = words[:len(SETTINGS.columns)], words[len(SETTINGS.columns):-1]
     return Plan(settings, _tables(image, trailer, places))

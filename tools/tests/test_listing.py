@@ -31,6 +31,9 @@ class Listings(unittest.TestCase):
         self.assertIn(["labels", "0", "receiver", "sort", "10", "10", "14", "0"], lines)
         self.assertIn(["labels", "0", "latency", "13", "of", "13", "0"], lines)
 
+    def test_default_latency(self):
+        self.assertIn(["labels", "0", "latency", "22", "of", "20", "-2", "!"], words("q21-default-latency"))
+
     def test_slack_below_zero_is_flagged(self):
         self.assertIn(["labels", "0", "receiver", "sort", "10", "9", "13", "-1", "!"], words("case-b-early"))
         self.assertIn(["labels", "0", "latency", "13", "of", "12", "-1", "!"], words("case-b-late"))

@@ -102,6 +102,16 @@ class Views(unittest.TestCase):
         self.assertIn("shoot.1", labels)
         self.assertNotIn("shoot.0", labels)
 
+    def test_shapes_lie_beside_the_labels(self):
+        elements = drawn(load(EXAMPLES / "tunnel.txt"), view=View(700, 1300))
+        lanes = [element for element in elements if element.get("class") == "lane"]
+        left, width = float(lanes[0].get("x")), float(lanes[0].get("width"))
+        blocks = [element for element in elements if element.tag == SVG + "rect" and len(element)]
+        self.assertGreater(len(blocks), 5)
+        for block in blocks:
+            self.assertGreaterEqual(float(block.get("x")), left)
+            self.assertLessEqual(float(block.get("x")) + float(block.get("width")), left + width + 0.2)
+
     def test_only_lanes_named(self):
         plan = load(EXAMPLES / "tunnel.txt")
         labels = texts(drawn(plan, view=View(lanes=["eye", "up"])))

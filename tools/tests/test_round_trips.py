@@ -3,6 +3,7 @@ import unittest
 
 from support import EXAMPLES, SHAPES, generated
 
+from plans.files import load
 from plans.image import decode, encode
 from plans.listing import listing
 from plans.picture.drawing import picture
@@ -56,10 +57,20 @@ class RoundTrips(unittest.TestCase):
         self.assertGreater(min(counts.values()), 10, counts)
 
     def test_examples(self):
-        images = [path.read_bytes() for path in EXAMPLES.glob("*.image")]
+        images = {path: path.read_bytes() for path in EXAMPLES.glob("*.image")}
         self.assertGreater(len(images), 24)
-        for image in filter(readable, images):
-            self.assertEqual(again(image), image)
+        for path, image in images.items():
+            self.assertEqual(encode(load(path.with_suffix(".txt"))), image, path.stem)
+            if readable(image):
+                self.assertEqual(again(image), image, path.stem)
+
+    def test_images_of_no_whole_words(self):
+        """A byte too much in front of the trailer, the last word set right."""
+        image = generated("small")
+        trailer = len(image) - 84
+        longer = image[:trailer] + b"\0" + image[trailer:-4] + (trailer + 1).to_bytes(4, "little")
+        self.assertFalse(readable(longer))
+        self.assertRaisesRegex(BadValue, "question 3", decode, longer)
 
     def test_highest_words(self):
         image = encode(decode(generated("small")))

@@ -64,6 +64,17 @@ class Reading(unittest.TestCase):
             plan = read_text("p.txt", case_a_with(line, text))
             self.assertEqual(encode(read_text("q.txt", write_text(plan))), encode(plan), text)
 
+    def test_raw_changes(self):
+        image = encode(read_text("p.txt", CASE_A))
+        for raw, expected in (
+            ("last-word=63", image[:-4] + b"\x3f\0\0\0"),
+            ("length=150", image + b"\0\0"),
+            ("length=3", image[:3]),
+            ("core.rows=2", image[:76] + b"\2" + image[77:]),
+            ("vcpu.offset=16", image[:80] + b"\x10" + image[81:]),
+        ):
+            self.assertEqual(encode(read_text("p.txt", CASE_A + f"raw {raw}\n")), expected, raw)
+
     def test_comments_tabs_and_line_ends(self):
         text = CASE_A.replace(" ", "\t").replace("\n", "  # why\r\n") + "# end"
         self.assertEqual(encode(read_text("p.txt", text)), encode(read_text("p.txt", CASE_A)))
