@@ -107,7 +107,7 @@ class Views(unittest.TestCase):
         lanes = [element for element in elements if element.get("class") == "lane"]
         left, width = float(lanes[0].get("x")), float(lanes[0].get("width"))
         blocks = [element for element in elements if element.tag == SVG + "rect" and len(element)]
-        self.assertGreater(len(blocks), 5)
+        self.assertEqual(len(blocks), 5)
         for block in blocks:
             self.assertGreaterEqual(float(block.get("x")), left)
             self.assertLessEqual(float(block.get("x")) + float(block.get("width")), left + width + 0.2)
