@@ -55,6 +55,6 @@ def row_title(plan, answer):
     return f" at {name}" if name.startswith(answer.kind) else f" at {answer.kind} {name}"
 
 
-def place_of(plan, answer):
-    """Where the row that an answer names stands in text, or None."""
-    return plan.place(answer.kind, answer.row) if answer.kind else None
+def lines_of(plan, answer):
+    """The lines of text that the row which an answer names comes from."""
+    return plan.lines(answer.kind, answer.row) if answer.kind else []

@@ -4,7 +4,7 @@ import os
 import sys
 from pathlib import Path
 
-from .answers import ask, explained, parse, place_of
+from .answers import ask, explained, lines_of, parse
 from .files import as_text, is_text, load, load_image, read_bytes, write_whole
 from .image import encode
 from .listing import listing
@@ -12,6 +12,9 @@ from .picture.drawing import View, near, picture
 from .reading import read_text
 from .troubles import Trouble, meant, trouble
 from .writing import write_text
+
+
+CHECKER = os.environ.get("PLANCHECK") or str(Path(__file__).resolve().parents[2] / "target/bin/plancheck")
 
 
 def main(arguments):
@@ -39,12 +42,12 @@ def parser():
     command.add_argument("plan", help="image or text")
     command = _command(commands, "check", run_check, "ask the checker, and print its answer in words")
     command.add_argument("plan", help="image or text")
-    _asks_checker(command, "target/bin/plancheck")
+    _asks_checker(command, default=CHECKER)
     command = _command(commands, "picture", run_picture, "draw a plan as SVG")
     command.add_argument("plan", help="image or text")
     command.add_argument("out", help="SVG to write, or -")
     command.add_argument("--answer", type=an_answer, metavar="'N T R'", help="the checker's line, as printed")
-    _asks_checker(command, None)
+    _asks_checker(command, default=None)
     command.add_argument("--from", dest="first", type=int, metavar="TICK", help="first tick to draw")
     command.add_argument("--to", dest="last", type=int, metavar="TICK", help="where to stop drawing")
     command.add_argument("--near", type=int, metavar="TICKS", help="draw what the answer names and so many ticks around it")
@@ -60,7 +63,8 @@ def _command(commands, name, run, text):
 
 
 def _asks_checker(command, default):
-    command.add_argument("--plancheck", metavar="PATH", default=default, help=f"the checker to ask (default: {default})")
+    otherwise = "without it, $PLANCHECK, then target/bin/plancheck" if default else "without it, none"
+    command.add_argument("--plancheck", metavar="PATH", default=default, help=f"the checker to ask; {otherwise}")
 
 
 def an_answer(text):
@@ -68,8 +72,10 @@ def an_answer(text):
 
 
 def run_image(options):
-    plan = read_text(options.plan, as_text(options.plan, read_bytes(options.plan)))
-    write_whole(options.out, encode(plan))
+    data = read_bytes(options.plan)
+    if not is_text(data):
+        raise trouble(options.plan, "is no text" + (" but an image" if data else ": it is empty"))
+    write_whole(options.out, encode(read_text(options.plan, as_text(options.plan, data))))
 
 
 def run_text(options):
@@ -85,8 +91,7 @@ def run_check(options):
     data, plan = image_and_plan(options.plan)
     answer = ask(options.plancheck, data)
     print(explained(plan, answer))
-    place = plan and place_of(plan, answer)
-    if place:
+    for place in lines_of(plan, answer) if plan else ():
         print(f"{place}: this row")
     return 0 if answer.accepted else 1
 

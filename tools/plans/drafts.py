@@ -21,6 +21,10 @@ class Draft:
     places: dict = field(default_factory=dict)
     broken: bool = False
 
+    def lines(self):
+        """The row's own line, then those that changed it, in order."""
+        return list(dict.fromkeys([self.place, *self.places.values()]))
+
     def title(self):
         return f"{self.table.kind} {self.name}".rstrip()
 

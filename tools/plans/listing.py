@@ -137,13 +137,13 @@ def _end_line(plan, role, job, ready):
 
 
 def holds(plan, meaning):
-    """Each buffer's holds by start, with the ticks in which it was free before."""
-    header = ["buffer", "node", "row", "job", "writer", "reader", "hold", "free before"]
+    """Each buffer's holds by start: the ticks it was free before, and those from the write's end to the read."""
+    header = ["buffer", "node", "row", "job", "writer", "reader", "hold", "free before", "read after write"]
     lines, ends = [], {}
     for hold in meaning.holds():
         row, buffer = plan.rows["buffer"][hold.row], (hold.node, hold.number)
         tasks = [plan.name("task", row.writer), plan.name("task", row.reader)]
-        gap = slack(hold.start, ends.get(buffer, 0))
-        lines.append([hold.number, hold.node, plan.name("buffer", hold.row), hold.job, *tasks, span(hold.start, hold.end), gap])
+        gaps = [slack(hold.start, ends.get(buffer, 0)), slack(hold.read, hold.written)]
+        lines.append([hold.number, hold.node, plan.name("buffer", hold.row), hold.job, *tasks, span(hold.start, hold.end), *gaps])
         ends[buffer] = max(ends.get(buffer, 0), hold.end)
     return "holds", header, lines

@@ -50,7 +50,7 @@ class Message:
 
 @dataclass(frozen=True)
 class Hold:
-    """The ticks in which a buffer row has the buffer, a number on one node."""
+    """The ticks in which a buffer row has the buffer, a number on one node; when its write ends and its read starts."""
 
     row: int
     number: int
@@ -58,6 +58,8 @@ class Hold:
     job: int
     start: int
     end: int
+    written: int
+    read: int
 
 
 class Meaning:
@@ -186,7 +188,7 @@ class Meaning:
             for job in self.jobs_with_pieces[row.writer] & self.jobs_with_pieces[row.reader]:
                 writer, reader = self.job(row.writer, job), self.job(row.reader, job)
                 if node is not None and reader:
-                    found.append(Hold(number, row.number, node, job, writer.first, reader.last))
+                    found.append(Hold(number, row.number, node, job, writer.first, reader.last, writer.last, reader.first))
         return sorted(found, key=lambda hold: (hold.node, hold.number, hold.start, hold.row))
 
 

@@ -67,7 +67,7 @@ class Plan:
     def name(self, kind, number):
         return self.names.name(kind, number)
 
-    def place(self, kind, number):
-        """Where the row stands in text, or None."""
+    def lines(self, kind, number):
+        """Where the row stands in text and where it is changed; none for a row of an image."""
         places = self.places.get(kind, ())
-        return places[number] if number < len(places) else None
+        return places[number] if number < len(places) else []

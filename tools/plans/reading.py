@@ -59,7 +59,7 @@ class Reader:
         records = {kind: [self._record(draft, names) for draft in drafts] for kind, drafts in rows.items()}
         if self.troubles:
             raise Trouble(sorted(self.troubles, key=lambda pair: (pair[0].file, pair[0].line)))
-        places = {kind: [draft.place for draft in drafts] for kind, drafts in rows.items()}
+        places = {kind: [draft.lines() for draft in drafts] for kind, drafts in rows.items()}
         return Plan(settings, records, given, places, self.drafts.raw)
 
     def _ask_counts(self, whole):

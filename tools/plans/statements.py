@@ -9,7 +9,7 @@ RESERVED = ("none", "any")
 
 def statements(text):
     """Line numbers (from 1) with the words of each line that has any; '#' starts a comment."""
-    for number, line in enumerate(text.splitlines(), 1):
+    for number, line in enumerate(text.split("\n"), 1):
         words = line.split("#", 1)[0].split()
         if words:
             yield number, words

@@ -1,16 +1,30 @@
 """The command line: exit statuses, and that bad input leaves nothing behind."""
+import io
 import os
 import subprocess
 import sys
 import tempfile
 import unittest
+from collections import namedtuple
+from contextlib import redirect_stderr, redirect_stdout
 from pathlib import Path
 
 from support import CASE_A, EXAMPLES, TOOLS
 
+from plans.commands import main
+
+Ran = namedtuple("Ran", "returncode stdout stderr")
+
 
 def run(*arguments):
-    return subprocess.run([sys.executable, TOOLS / "plan", *map(str, arguments)], capture_output=True, text=True, check=False)
+    """What a call of the command gives, without a process of its own."""
+    out, err = io.StringIO(), io.StringIO()
+    with redirect_stdout(out), redirect_stderr(err):
+        try:
+            status = main([str(argument) for argument in arguments])
+        except SystemExit as left:
+            status = left.code
+    return Ran(status, out.getvalue(), err.getvalue())
 
 
 class Commands(unittest.TestCase):
@@ -32,6 +46,11 @@ class Commands(unittest.TestCase):
         path = self.put("checker", f"#!/bin/sh\ncat > /dev/null\necho {line}\n")
         os.chmod(path, 0o755)
         return path
+
+    def test_the_command_itself(self):
+        command = [sys.executable, TOOLS / "plan", "image", EXAMPLES / "case-a.txt", "-"]
+        ran = subprocess.run(command, capture_output=True, check=True)
+        self.assertEqual(ran.stdout, (EXAMPLES / "case-a.image").read_bytes())
 
     def test_image(self):
         text, out = self.put("a.txt", CASE_A), self.folder / "a.image"
@@ -71,6 +90,16 @@ class Commands(unittest.TestCase):
     def test_no_text(self):
         ran = run("list", self.put("a.txt", b"plan cycle=1\ncore caf\xe9 node=0 d=0 v=0\n"))
         self.assertIn("a.txt: line 2 is not UTF-8", ran.stderr)
+
+    def test_an_image_is_no_text(self):
+        ran = run("image", EXAMPLES / "case-a.image", self.folder / "out.image")
+        self.assertEqual((ran.returncode, self.files()), (1, []))
+        self.assertIn("case-a.image: is no text but an image", ran.stderr)
+
+    def test_check_tells_where_a_row_was_changed(self):
+        ran = run("check", EXAMPLES / "q18-hop-too-soon.txt", "--plancheck", self.program("18 8 1"))
+        lines = [line.rsplit("/", 1)[-1] for line in ran.stdout.splitlines()[1:]]
+        self.assertEqual(lines, ["two-hops.txt:10: this row", "q18-hop-too-soon.txt:6: this row"])
 
     def test_check(self):
         text = self.put("a.txt", CASE_A)

@@ -39,8 +39,9 @@ class Listings(unittest.TestCase):
         self.assertIn(["labels", "0", "latency", "13", "of", "12", "-1", "!"], words("case-b-late"))
 
     def test_holds(self):
-        self.assertIn(["0", "0", "totals", "0", "count", "report", "12..22", "0"], words("shared-buffer"))
-        self.assertIn(["0", "2", "scans", "1", "decode", "send", "2760..3525", "-125", "!"], words("q24-second-scan"))
+        self.assertIn(["0", "0", "totals", "0", "count", "report", "12..22", "0", "1"], words("shared-buffer"))
+        self.assertIn(["0", "2", "scans", "1", "decode", "send", "2760..3525", "-125", "!", "0"], words("q24-second-scan"))
+        self.assertIn(["0", "0", "scans", "0", "decode", "send", "2..11", "2", "-1", "!"], words("q23-read-too-soon"))
 
 
 def words_of_two_jobs():

@@ -89,10 +89,15 @@ class Marks(unittest.TestCase):
         plan = read_text("p.txt", CASE_A)
         self.assertEqual(len(marked(drawn(plan, Answer(6, 1, 0)))), 2)
 
-    def test_a_row_out_of_view_is_told(self):
+    def test_a_row_out_of_view_is_pointed_at(self):
         plan, answer = example("q12-pieces-overlap")
-        self.assertIn("nothing of the refused row", " ".join(texts(drawn(plan, answer, View(0, 3)))))
-        self.assertNotIn("nothing of the refused row", " ".join(texts(drawn(plan, answer))))
+        self.assertIn("5..8", texts(drawn(plan, answer, View(0, 3))))
+        self.assertNotIn("5..8", texts(drawn(plan, answer)))
+
+    def test_a_row_without_a_picture_is_told(self):
+        plan, answer = read_text("p.txt", CASE_A + "vcpu next core=3\n"), Answer(5, 2, 1)
+        self.assertIn("nothing of the refused row", " ".join(texts(drawn(plan, answer))))
+        self.assertNotIn("nothing of the refused row", " ".join(texts(drawn(plan, Answer(5, 2, 0)))))
 
 
 class Views(unittest.TestCase):

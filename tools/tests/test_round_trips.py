@@ -3,6 +3,7 @@ import unittest
 
 from support import EXAMPLES, SHAPES, generated
 
+from plans.answers import Answer
 from plans.files import load
 from plans.image import decode, encode
 from plans.listing import listing
@@ -12,7 +13,7 @@ from plans.schema import TABLES
 from plans.troubles import BadValue
 from plans.writing import write_text
 
-MUTANTS = 300
+MUTANTS = 200
 
 
 def again(image):
@@ -79,13 +80,21 @@ class RoundTrips(unittest.TestCase):
         self.assertEqual(again(highest), highest)
 
     def test_any_plan_can_be_listed_and_drawn(self):
-        """Listing and picture stand values that break questions."""
+        """Listing and picture stand values that break questions, whatever row an answer names."""
         for seed in range(0, MUTANTS, 5):
             image = generated("mutant", seed)
             if readable(image):
                 plan = decode(image)
                 self.assertIn("cycle", listing(plan))
-                self.assertIn("</svg>", picture(plan, f"mutant {seed}"))
+                self.assertIn("</svg>", picture(plan, f"mutant {seed}", Answer(6, seed // 5 % len(TABLES) + 1, seed // 50)))
+
+    def test_rows_of_no_row_can_be_drawn(self):
+        """Every word is one that names no row and lies past the cycle."""
+        image = generated("rich")
+        plan = decode(b"\xff" * (len(image) - 84) + image[-84:])
+        for table in range(1, len(TABLES) + 1):
+            self.assertIn("</svg>", picture(plan, "no rows", Answer(5, table, 0)))
+        self.assertIn("4294967295", listing(plan))
 
 
 if __name__ == "__main__":

@@ -83,7 +83,7 @@ def draw_marked_jobs(scene):
     """Release to due tick of the marked jobs, below their core's lane."""
     for task, number in sorted(scene.marked_jobs()):
         lane, job = scene.lanes.get("core", scene.meaning.core_of_task(task)), scene.meaning.job(task, number)
-        if lane and scene.scale.shows(job.release, job.due):
+        if lane and job and scene.scale.shows(job.release, job.due):
             _draw_job(scene, lane, job)
 
 
@@ -95,3 +95,4 @@ def _draw_job(scene, lane, job):
     long = f"{name}: release {job.release}, due {job.due}, {job.ticks} of {job.owed} ticks"
     label = fitting(right - left, long, ticks, name, str(job.number))
     scene.svg.text("small", left + 4, y + 11, label)
+    scene.marks_drawn += 1

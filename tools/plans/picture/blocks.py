@@ -31,10 +31,14 @@ def tint(task):
 def draw_blocks(scene):
     """Kind by kind; marked blocks last, so that nothing hides them."""
     for describe, draw in ((windows, draw_window), (pieces, draw_piece), (frames, draw_piece)):
-        blocks = [block for block in describe(scene) if block.lane and scene.scale.shows(block.start, block.end)]
+        described = [block for block in describe(scene) if block.lane]
+        blocks = [block for block in described if scene.scale.shows(block.start, block.end)]
         tracks = tracks_of([(id(block.lane), block.start, block.end, block.row) for block in blocks])
         for block in sorted(blocks, key=lambda block: (scene.marks.has(block.kind, block.row), tracks[block.row])):
             draw(scene, block, SHIFT * min(tracks[block.row], 2))
+        for block in described:
+            if scene.marks.has(block.kind, block.row) and not scene.scale.shows(block.start, block.end):
+                _point_out_of_view(scene, block)
     tracks = hold_tracks(scene.holds)
     for hold in scene.holds:
         draw_hold(scene, hold, tracks[hold])
@@ -136,6 +140,15 @@ def _label(scene, x, width, y, height, labels, marked):
         if label:
             scene.svg.text(classes + " halo" if marked else classes, x + width / 2, y + height / 2 + size / 2.8, label)
             return
+
+
+def _point_out_of_view(scene, block):
+    """A mark at the edge of the view behind which a marked block lies, with its ticks."""
+    lane, y, later = block.lane, block.lane.middle(), block.start >= scene.scale.last
+    edge, back = (scene.scale.right, -10) if later else (scene.scale.left, 10)
+    scene.svg.path("mt", f"M{edge:.1f} {y:.1f}l{back} -6v12z", block.title)
+    scene.svg.text("small end" if later else "small", edge + back * 1.3, y + 3, f"{block.start}..{block.end}")
+    scene.marks_drawn += 1
 
 
 def _pointer(scene, x, y):
