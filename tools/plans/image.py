@@ -51,29 +51,33 @@ def apply_raw(image, trailer, changes):
 def decode(image):
     """The plan in an image in which questions 1 to 3 are answered yes."""
     if not TRAILER_BYTES <= len(image) <= LONGEST:
-        raise BadValue(f"no readable image (question 1): {len(image)} bytes, not {TRAILER_BYTES} to {LONGEST}")
+        raise unreadable(1, f"{len(image)} bytes, not {TRAILER_BYTES} to {LONGEST}")
     trailer = len(image) - TRAILER_BYTES
     (last,) = unpack(image[-WORD_BYTES:])
     if last != trailer:
-        raise BadValue(f"no readable image (question 2): the last word is {last}, not {trailer}")
+        raise unreadable(2, f"the last word is {last}, not {trailer}")
     words = unpack(image[trailer:])
     settings, places = words[:len(SETTINGS.columns)], words[len(SETTINGS.columns):-1]
     return Plan(settings, _tables(image, trailer, places))
+
+
+def unreadable(question, message):
+    return BadValue(f"no readable image (question {question}): {message}")
 
 
 def _tables(image, trailer, places):
     rows, at = {}, 0
     for table, offset, count in zip(TABLES, places[::2], places[1::2]):
         if not table.least <= count <= table.most:
-            raise BadValue(f"no readable image (question 3): {count} {table.kind} rows, not {table.least} to {table.most}")
+            raise unreadable(3, f"{count} {table.kind} rows, not {table.least} to {table.most}")
         if offset != at:
-            raise BadValue(f"no readable image (question 3): table {table.kind} at byte {offset}, not {at}")
+            raise unreadable(3, f"table {table.kind} at byte {offset}, not {at}")
         end = at + count * table.row_bytes
         if end > trailer:
-            raise BadValue(f"no readable image (question 3): table {table.kind} ends at byte {end}, past the trailer at {trailer}")
+            raise unreadable(3, f"table {table.kind} ends at byte {end}, past the trailer at {trailer}")
         words = unpack(image[at:end])
         rows[table.kind] = [table.record(*row) for row in zip(*[iter(words)] * (table.row_bytes // WORD_BYTES))]
         at = end
     if at != trailer:
-        raise BadValue(f"no readable image (question 3): the tables end at byte {at}, the trailer starts at {trailer}")
+        raise unreadable(3, f"the tables end at byte {at}, the trailer starts at {trailer}")
     return rows

@@ -99,14 +99,18 @@ def jobs(plan, meaning):
     lines = []
     for task in range(len(plan.rows["task"])):
         for job in meaning.jobs(task):
-            pieces = [plan.rows["piece"][piece] for piece in job.pieces]
-            spans = " ".join(span(piece.start, piece.start + piece.length) for piece in pieces)
-            ticks = flagged(job.ticks, job.ticks != job.owed)
-            lines.append([plan.name("task", task), job.number, span(job.release, job.due), ticks, job.owed, slack(job.due, job.last), spans])
+            lines.append([plan.name("task", task), *_job_words(plan, job)])
         missing, first = meaning.missing_jobs(task)
         if missing:
             lines.append([plan.name("task", task), first, "", "0 !", "", "", f"no piece in {missing} jobs, first job {first}"])
     return "jobs", header, lines
+
+
+def _job_words(plan, job):
+    pieces = [plan.rows["piece"][piece] for piece in job.pieces]
+    spans = " ".join(span(piece.start, piece.start + piece.length) for piece in pieces)
+    ticks = flagged(job.ticks, job.ticks != job.owed)
+    return [job.number, span(job.release, job.due), ticks, job.owed, slack(job.due, job.last), spans]
 
 
 def messages(plan, meaning):

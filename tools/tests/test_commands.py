@@ -126,7 +126,10 @@ class Commands(unittest.TestCase):
 
     def test_picture_of_what_is_not_there(self):
         text, out = self.put("a.txt", CASE_A), self.folder / "a.svg"
-        for options, message in ((["--lanes", "scaner"], "no core or link is named 'scaner' (did you mean scanner?)"), (["--from", "9", "--to", "9"], "no ticks from 9 to 9")):
+        for options, message in (
+            (["--lanes", "scaner"], "no core or link is named 'scaner' (did you mean scanner?)"),
+            (["--from", "9", "--to", "9"], "no ticks from 9 to 9"),
+        ):
             ran = run("picture", text, out, *options)
             self.assertEqual((ran.returncode, out.exists()), (1, False))
             self.assertIn(message, ran.stderr)

@@ -151,7 +151,8 @@ class Views(unittest.TestCase):
 class Words(unittest.TestCase):
     def test_answers_in_words(self):
         plan, answer = example("q13-a-tick-short")
-        self.assertEqual(explained(plan, answer), "refused (13 3 0) at task decode; no to question 13: do each job's n pieces sum to C + n×d?")
+        expected = "refused (13 3 0) at task decode; no to question 13: do each job's n pieces sum to C + n×d?"
+        self.assertEqual(explained(plan, answer), expected)
 
 
 if __name__ == "__main__":

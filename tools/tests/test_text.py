@@ -94,7 +94,8 @@ class BadText(unittest.TestCase):
             self.assertTrue(line.startswith(message), f"{line!r} does not start with {message!r}")
 
     def test_unknown_kind(self):
-        self.expect(CASE_A + "pice task=decode job=0 at=2..6\n", "p.txt:7: no kind of line starts with 'pice' (did you mean piece?)")
+        text = CASE_A + "pice task=decode job=0 at=2..6\n"
+        self.expect(text, "p.txt:7: no kind of line starts with 'pice' (did you mean piece?)")
 
     def test_unknown_key(self):
         self.expect(case_a_with(2, "core scanner node=0 d=1 w=2"), "p.txt:2: core has no key 'w'; its keys are node, d, v")
@@ -109,7 +110,8 @@ class BadText(unittest.TestCase):
         self.expect(CASE_A + "vcpu guest core=0\n", "p.txt:7: vcpu guest stands already at p.txt:3")
 
     def test_unknown_name(self):
-        self.expect(case_a_with(5, "window vcpu=gest at=0..10"), "p.txt:5: window: vcpu: no vcpu is named 'gest' (did you mean guest?)")
+        text = case_a_with(5, "window vcpu=gest at=0..10")
+        self.expect(text, "p.txt:5: window: vcpu: no vcpu is named 'gest' (did you mean guest?)")
 
     def test_numbers(self):
         self.expect(case_a_with(1, "plan cycle=4294967296"), "p.txt:1: plan: cycle: 4294967296 is past 4294967295")
@@ -150,7 +152,8 @@ class BadText(unittest.TestCase):
             self.expect(CASE_A + rows, message)
 
     def test_all_lines_are_told(self):
-        self.expect("plan cycle=x\ncore node=0\nvcpu core=z\n", "p.txt:1: plan: cycle", "p.txt:2: core lacks d, v", "p.txt:3: vcpu: core: no core")
+        text = "plan cycle=x\ncore node=0\nvcpu core=z\n"
+        self.expect(text, "p.txt:1: plan: cycle", "p.txt:2: core lacks d, v", "p.txt:3: vcpu: core: no core")
 
     def test_a_bad_row_still_has_its_name(self):
         self.expect(case_a_with(3, "vcpu guest cor=scanner"), "p.txt:3: vcpu has no key 'cor' (did you mean core?)")

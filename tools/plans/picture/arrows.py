@@ -48,7 +48,7 @@ def stream_lines(scene, stream):
 def _ends(leaves, lane, arrives, other):
     """From the near edge of one lane's block to the near edge of the other's."""
     down = lane.top <= other.top
-    start = lane.middle() if lane.kind == "link" else (lane.block() + lane.block_height if down else lane.block())
+    start = lane.travel if lane.kind == "link" else (lane.block() + lane.block_height if down else lane.block())
     end = other.block() if down else other.block() + other.block_height
     return (leaves, start), (arrives, end)
 
@@ -74,7 +74,7 @@ def draw_travels(scene):
         lane, link = scene.lanes.get("link", frame.link), scene.plan.row("link", frame.link)
         end = frame.start + scene.meaning.frame_ticks(number)
         if lane and link and scale.shows(end, end + link.delay + precision):
-            there, y = end + link.delay, lane.middle()
+            there, y = end + link.delay, lane.travel
             scene.svg.line("delay", scale.x(end), y, scale.x(there), y)
             scene.svg.line("p-wait", scale.x(there), y, scale.x(there + precision), y)
 

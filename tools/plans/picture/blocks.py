@@ -107,7 +107,8 @@ def draw_hold(scene, hold, track):
     tasks = f"{scene.plan.name('task', row.writer)} → {scene.plan.name('task', row.reader)}"
     title = f"{name} (buffer {hold.number}, node {hold.node}), job {hold.job}: {tasks}, {hold.start}..{hold.end}"
     labels = (f"{name}.{hold.job}: {tasks}", f"{name}.{hold.job}", str(hold.number))
-    block, marked = Block("buffer", hold.row, lane, hold.start, hold.end, 0, title, labels, "h"), scene.marks.has("buffer", hold.row)
+    block = Block("buffer", hold.row, lane, hold.start, hold.end, 0, title, labels, "h")
+    marked = scene.marks.has("buffer", hold.row)
     x, width = _rect(scene, block, lane.block(track), lane.block_height, marked)
     _label(scene, x, width, lane.block(track), lane.block_height, labels, marked)
     if marked:

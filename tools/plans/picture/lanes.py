@@ -39,6 +39,11 @@ class Lane:
     def block_height(self):
         return self.track_height - self.MARGINS[self.kind][self.low] - (2 if self.low else 4)
 
+    @property
+    def travel(self):
+        """Where the way behind a frame is drawn: under the frames, so that it crosses no label."""
+        return self.block() + self.block_height + (1 if self.low else 2)
+
     def middle(self, track=0):
         return self.block(track) + self.block_height / 2
 

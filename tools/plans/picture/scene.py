@@ -22,9 +22,10 @@ class Scene:
         first, last = self._ticks(options)
         self.holds = [hold for hold in self.meaning.holds() if hold.start < last and hold.end > first]
         lanes = self._chosen(options.lanes)
+        with_jobs = {("core", self.meaning.core_of_task(task)) for task, _ in self.marked_jobs()}
         for lane in lanes:
             lane.label = cut(lane.label, LONGEST_LABEL)
-            lane.jobs = lane.kind == "core" and lane.key in self._cores_with_marked_jobs()
+            lane.jobs = (lane.kind, lane.key) in with_jobs
         self.scale = Scale(first, last, self._left(lanes), options.width or self._width(first, last))
         self.lanes = Lanes(lanes, top)
 
@@ -53,9 +54,6 @@ class Scene:
         jobs = {(answer.row, job.number) for job in self.meaning.jobs(answer.row)}
         missing, first = self.meaning.missing_jobs(answer.row)
         return jobs | {(answer.row, first)} if missing else jobs
-
-    def _cores_with_marked_jobs(self):
-        return {self.meaning.core_of_task(task) for task, _ in self.marked_jobs()}
 
     def _ticks(self, options):
         spans = [row for kind in ("window", "piece") for row in self.plan.rows[kind]]

@@ -12,7 +12,8 @@ ARROW = "#1b3a6b"
 
 STYLE = "".join(
     [
-        f"text{{font-family:'DejaVu Sans',Verdana,Helvetica,Arial,sans-serif;font-size:{FONT}px;fill:#111}}",
+        f"text{{font-family:'DejaVu Sans',Verdana,Helvetica,Arial,sans-serif;font-size:{FONT}px;fill:#111;"
+        "stroke:#fff;stroke-width:2.4px;stroke-opacity:.7;paint-order:stroke;stroke-linejoin:round}",
         ".page{fill:#fff}",
         ".head{font-size:15px;font-weight:bold}",
         ".no{font-weight:bold;font-size:12.5px;fill:" + MARK + "}",
@@ -31,7 +32,7 @@ STYLE = "".join(
         f".m{{fill:url(#mark);stroke:#000;stroke-width:2}}.mt{{fill:{MARK}}}.ml{{font-weight:bold;fill:{MARK}}}",
         ".thin{stroke-width:.15}",
         f".less{{font-size:{SMALL}px}}",
-        ".halo{stroke:#fff;stroke-width:3px;paint-order:stroke;stroke-linejoin:round;font-weight:bold;fill:#000}",
+        ".halo{stroke-width:3px;stroke-opacity:1;font-weight:bold;fill:#000}",
         f".a{{stroke:{ARROW};stroke-width:1.2;fill:none}}.ah{{fill:{ARROW}}}.faint{{stroke-width:.6;opacity:.35}}",
         f".am{{stroke:{MARK};stroke-width:2.6;fill:none}}.amh{{fill:{MARK}}}",
         f".delay{{stroke:{ARROW};stroke-width:2}}.p-wait{{stroke:{ARROW};stroke-width:2;stroke-dasharray:1.5 2}}",

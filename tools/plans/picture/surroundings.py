@@ -58,7 +58,8 @@ def legend(scene):
     """Looks with their meaning, those that the plan has use for."""
     yield from (("w w0", "window"), ("v", "VCPU switch (v)"), ("d", "task switch (d)"))
     if scene.plan.rows["frame"]:
-        yield from (("p t0", "work, or a frame in its sender's colour"), ("delay", "link delay"), ("p-wait", "P"), ("a", "message"))
+        yield "p t0", "work, or a frame in its sender's colour"
+        yield from (("delay", "link delay"), ("p-wait", "P"), ("a", "message"))
     else:
         yield "p t0", "work"
     if scene.holds:
