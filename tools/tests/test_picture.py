@@ -9,6 +9,7 @@ from plans.answers import Answer, explained, parse
 from plans.files import load
 from plans.image import decode
 from plans.picture.drawing import View, near, picture
+from plans.picture.style import MARK, TINTS, WINDOW_TINTS
 from plans.reading import read_text
 
 SVG = "{http://www.w3.org/2000/svg}"
@@ -146,6 +147,20 @@ class Views(unittest.TestCase):
             labels.sort()
             for (x, width), (other, other_width) in zip(labels, labels[1:]):
                 self.assertLessEqual(x + width / 2, other - other_width / 2 + 0.1)
+
+
+def luminance(colour):
+    """The relative luminance of #rrggbb."""
+    parts = [int(colour[at:at + 2], 16) / 255 for at in (1, 3, 5)]
+    red, green, blue = [part / 12.92 if part <= 0.04045 else ((part + 0.055) / 1.055) ** 2.4 for part in parts]
+    return 0.2126 * red + 0.7152 * green + 0.0722 * blue
+
+
+class Colours(unittest.TestCase):
+    def test_marks_stand_out_without_colour(self):
+        """Dark against every light tint, by the contrast of lightness alone."""
+        for tint in TINTS + WINDOW_TINTS:
+            self.assertGreater((luminance(tint) + 0.05) / (luminance(MARK) + 0.05), 4, tint)
 
 
 class Words(unittest.TestCase):
