@@ -8,6 +8,7 @@ from .answers import ask, explained, lines_of, parse
 from .files import as_text, is_text, load, load_image, read_bytes, write_whole
 from .image import encode
 from .listing import listing
+from .ordering import in_order
 from .picture.drawing import View, near, picture
 from .reading import read_text
 from .troubles import Trouble, meant, trouble
@@ -38,6 +39,7 @@ def parser():
     command.add_argument("out", help="image to write, or -")
     command = _command(commands, "text", run_text, "print a plan as text")
     command.add_argument("plan", help="image or text")
+    command.add_argument("--in-order", action="store_true", help="with windows, pieces and frames by start")
     command = _command(commands, "list", run_list, "print a plan's rows and what follows from them")
     command.add_argument("plan", help="image or text")
     command = _command(commands, "check", run_check, "ask the checker, and print its answer in words")
@@ -79,7 +81,8 @@ def run_image(options):
 
 
 def run_text(options):
-    print(write_text(load(options.plan)), end="")
+    plan = load(options.plan)
+    print(write_text(in_order(plan) if options.in_order else plan), end="")
 
 
 def run_list(options):
