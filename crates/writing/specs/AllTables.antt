@@ -1,0 +1,40 @@
+-- The tables of all lanes, one after another, in lent bytes.
+use Prim.Native.Nat.{ℕ, zero, suc, _+_, _*_, _/_}
+use mathlib.Core.Path.{_≡_}
+use mathlib.Core.Bool.{cond}
+use mathlib.Core.List.{List, _∷_, _++_, [], flatMap}
+use lib.ListN.{length, drop}
+use lib.Dec.{leb, eqb}
+use Rattle.plan.specs.declared.Answer.{Answer}
+use Rattle.plan.specs.Questions.{whole, questions, answerTo}
+use Rattle.plan.specs.Dispatch.{lanes, tableOf}
+use Rattle.plan.specs.Boundary.{bytesOf, answerNumber}
+
+module _ (image : List ℕ) where
+  -- the tables of the lanes below n; of all lanes
+  unfoldable pub tablesBelow : ℕ → List ℕ
+  tablesBelow zero = []
+  tablesBelow (suc n) = tablesBelow n ++ tableOf image n
+
+  unfoldable pub allTables : List ℕ
+  allTables = tablesBelow (lanes image)
+
+  -- the word at which lane n's table begins: the lengths of the tables before it
+  unfoldable pub firstWord : ℕ → ℕ
+  firstWord zero = 0
+  firstWord (suc n) = firstWord n + length (tableOf image n)
+
+  -- building all of them: 1 to 24, then 26 of them together
+  unfoldable pub allAnswer : List ℕ → Answer
+  allAnswer b = answerTo (questions image ++ whole 26 (leb (length allTables) (length b / 4)) ∷ [])
+
+  unfoldable pub allNumber : List ℕ → ℕ
+  allNumber b = answerNumber (allAnswer b)
+
+  -- the bytes afterwards; later bytes stay as they were, and all of them after a refusal
+  unfoldable pub allBytes : List ℕ → List ℕ
+  allBytes b = cond (eqb (allAnswer b .number) 0) (flatMap (bytesOf 4) allTables ++ drop (4 * length allTables) b) b
+
+  pub record BuiltAll (b : List ℕ) (r : Answer) (after : List ℕ) : Type 0 where
+    pub answer : r ≡ allAnswer b
+    pub left : after ≡ allBytes b
