@@ -1,14 +1,14 @@
 -- The tables of all lanes, one after another, in lent bytes.
-use Prim.Native.Nat.{ℕ, zero, suc, _+_, _*_, _/_}
+use Prim.Native.Nat.{ℕ, zero, suc, _+_, _*_, _/_, _<_}
 use mathlib.Core.Path.{_≡_}
 use mathlib.Core.Bool.{cond}
 use mathlib.Core.List.{List, _∷_, _++_, [], flatMap}
-use lib.ListN.{length, drop}
+use lib.ListN.{length, take, drop}
 use lib.Dec.{leb, eqb}
 use Rattle.plan.specs.declared.Answer.{Answer}
 use Rattle.plan.specs.Questions.{whole, questions, answerTo}
 use Rattle.plan.specs.Dispatch.{lanes, tableOf}
-use Rattle.plan.specs.Boundary.{bytesOf, answerNumber}
+use Rattle.plan.specs.Boundary.{bytesOf, wordsOf, answerNumber}
 
 module _ (image : List ℕ) where
   -- the tables of the lanes below n; of all lanes
@@ -38,3 +38,9 @@ module _ (image : List ℕ) where
   pub record BuiltAll (b : List ℕ) (r : Answer) (after : List ℕ) : Type 0 where
     pub answer : r ≡ allAnswer b
     pub left : after ≡ allBytes b
+
+-- after a build of all that gives 0, the bytes read as words hold each lane's table at its first word; proved in proofs/Reading.antt
+abbrev pub AllLie : Type 0
+AllLie =
+    (image b : List ℕ) (lane : ℕ) → allAnswer image b .number ≡ 0 → lane < lanes image
+    → take (length (tableOf image lane)) (drop (firstWord image lane) (wordsOf (allBytes image b))) ≡ tableOf image lane
