@@ -1,21 +1,22 @@
 -- Tables in bytes, read as words: they are those that table building leaves in words, and each lane's is where the lengths say.
 use Prim.Native.Nat.{ℕ, zero, suc, _+_, _*_, _≤_, _<_}
-use mathlib.Core.Path.{_≡_, refl, ap, _∙_}
+use mathlib.Core.Path.{_≡_, refl, sym, ap, _∙_}
 use mathlib.Core.Logic.{_⊎_, inl, inr, _≢_}
-use mathlib.Core.List.{List, _++_, [], append-nil, append-assoc}
+use mathlib.Core.List.{List, _∷_, _++_, [], append-nil, append-assoc}
 use native.Mathlib.Nat.{not-suc-le-zero, eq-or-lt-of-le, le-of-suc-le-suc}
 use native.Mathlib.Omega.{arith}
 use native.Mathlib.Decide.{decLt}
-use lib.ListN.{length, take, drop}
-use lib.Seq.{take-append-seam, drop-at}
+use lib.ListN.{length, getD, take, drop, length-append, List·getD-append}
+use lib.Seq.{take-append-seam, drop-at, getD-at}
 use borrow.Author.Tests.{eq-eqb, ne-eqb}
 use Rattle.plan.specs.declared.Answer.{Answer}
+use Rattle.plan.specs.declared.LaneState.{LaneState}
 use Rattle.plan.specs.Questions.{answerOf, accepted}
-use Rattle.plan.specs.Dispatch.{lanes, tableOf, entryCount, buildAnswer, built}
+use Rattle.plan.specs.Dispatch.{lanes, tableOf, entryCount, buildAnswer, built, startState}
 use Rattle.plan.specs.Boundary.{wordsOf, buildBytes}
 use Rattle.lanes.proofs.Building.{accepted-of, built-accepted, build-no-lane, build-short}
 use Rattle.writing.specs.Stored.{BuiltBytes}
-use Rattle.writing.specs.AllTables.{tablesBelow, allTables, firstWord, allAnswer, allBytes, AllLie}
+use Rattle.writing.specs.AllTables.{tablesBelow, allTables, firstWord, allAnswer, allBytes, startRow, AllLie, AllReady}
 use Rattle.writing.proofs.Words.{words-length, words-row, words-drop}
 use Rattle.writing.proofs.Tables.{table-length}
 use Rattle.writing.proofs.AllTables.{below-first, all-refused}
@@ -87,3 +88,30 @@ all-lie s b lane e l =
     ap (λ (x : List ℕ). take (length (tableOf s lane)) (drop (firstWord s lane) x)) f
     ∙ ap (take (length (tableOf s lane))) (drop-at (tablesBelow s lane) _ (firstWord s lane) (below-first s lane))
     ∙ take-append-seam (tableOf s lane) (q .0 ++ wordsOf r)
+
+-- ---- starts
+
+module _ (s : List ℕ) (c : ℕ) where
+  row-long : (n : ℕ) → length (startRow s c n) ≡ n
+  unfolding startRow
+  row-long zero = refl
+  row-long (suc n) = length-append (startRow s c n) (startState c (firstWord s n) ∷ []) ∙ omega (arith, row-long n)
+
+  row-at : (n l : ℕ) (d : LaneState) → l < n → getD (startRow s c n) l d ≡ startState c (firstWord s l)
+  unfolding startRow
+  row-at zero l d h = absurd (not-suc-le-zero h)
+  row-at (suc n) l d h = go (eq-or-lt-of-le (le-of-suc-le-suc h)) (row-at n l d)
+    where
+      go : (l ≡ n) ⊎ (l < n) → (l < n → getD (startRow s c n) l d ≡ startState c (firstWord s l))
+          → getD (startRow s c n ++ startState c (firstWord s n) ∷ []) l d ≡ startState c (firstWord s l)
+      go (inl e) k = getD-at (startRow s c n) _ [] d l (row-long n ∙ sym e) ∙ ap (λ (x : ℕ). startState c (firstWord s x)) (sym e)
+      go (inr q) k = List·getD-append (startRow s c n) _ d l (omega (arith, row-long n)) ∙ k q
+
+pub all-ready : AllReady
+all-ready s b c h e =
+    record {
+      plan = all-accepted s b e;
+      in-calendar = h;
+      records = row-long s c (lanes s);
+      starts = λ l k. (firstWord s l, row-at s c (lanes s) l _ k, all-lie s b l e k);
+    }

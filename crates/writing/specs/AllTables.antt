@@ -1,5 +1,5 @@
 -- The tables of all lanes, one after another, in lent bytes.
-use Prim.Native.Nat.{ℕ, zero, suc, _+_, _*_, _/_, _<_}
+use Prim.Native.Nat.{ℕ, zero, suc, _+_, _*_, _/_, _^_, _<_}
 use mathlib.Core.Path.{_≡_}
 use mathlib.Core.Bool.{cond}
 use mathlib.Core.List.{List, _∷_, _++_, [], flatMap}
@@ -7,7 +7,9 @@ use lib.ListN.{length, take, drop}
 use lib.Dec.{leb, eqb}
 use Rattle.plan.specs.declared.Answer.{Answer}
 use Rattle.plan.specs.Questions.{whole, questions, answerTo}
-use Rattle.plan.specs.Dispatch.{lanes, tableOf}
+use Rattle.plan.specs.declared.LaneState.{LaneState}
+use Rattle.plan.specs.Dispatch.{lanes, tableOf, startState}
+use Rattle.plan.specs.Runs.{Ready}
 use Rattle.plan.specs.Boundary.{bytesOf, wordsOf, answerNumber}
 
 module _ (image : List ℕ) where
@@ -39,8 +41,19 @@ module _ (image : List ℕ) where
     pub answer : r ≡ allAnswer b
     pub left : after ≡ allBytes b
 
+-- the lanes below n started in cycle c, each at its first word
+unfoldable pub startRow : List ℕ → ℕ → ℕ → List LaneState
+startRow image c zero = []
+startRow image c (suc n) = startRow image c n ++ startState c (firstWord image n) ∷ []
+
 -- after a build of all that gives 0, the bytes read as words hold each lane's table at its first word; proved in proofs/Reading.antt
 abbrev pub AllLie : Type 0
 AllLie =
     (image b : List ℕ) (lane : ℕ) → allAnswer image b .number ≡ 0 → lane < lanes image
     → take (length (tableOf image lane)) (drop (firstWord image lane) (wordsOf (allBytes image b))) ≡ tableOf image lane
+
+-- so these words and the starts of all lanes are ready for a run (specs/Runs.antt of plan); proved there too
+abbrev pub AllReady : Type 0
+AllReady =
+    (image b : List ℕ) (c : ℕ) → c < 2 ^ 64 → allAnswer image b .number ≡ 0
+    → Ready image (wordsOf (allBytes image b)) (startRow image c (lanes image)) c

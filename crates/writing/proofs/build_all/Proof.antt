@@ -18,7 +18,7 @@ check-requires : tie.Need-check-requires
 check-requires c κs = search needs
 
 returns : tie.Need-returns
-returns c = let a = c .before .before .before .before .before .args in let s = a .image .now in let b = a .bytes .now in let e = c .before .before .check .ensures in subst (λ (r : Answer). BuiltAll s b r b) (sym e) (all-refused s b (λ z. c .if1 .taken (ap (λ (x : Answer). x .number) e ∙ z)))
+returns c = let a = c .before .before .before .before .before .args in let s = a .image .now in let b = a .bytes .now in let e = c .before .before .check .ensures in subst (λ (r : Answer). BuiltAll s b r b) (sym e) (all-refused s b (λ z. absurd (omega (arith, c .if1 .taken, ap (λ (x : Answer). x .number) e, z))))
 
 words-of-all-requires : tie.Need-words-of-all-requires
 words-of-all-requires c κs = let a = c .before .before .before .before .before .args in let s = a .image .now in let p = accepted-of s (sym (ap (λ (x : Answer). x .number) (c .before .before .check .ensures)) ∙ c .if1 .left) in p
