@@ -23,7 +23,7 @@ use crate::image::Plan;
 
 pub use clocks::{choices, Clocks};
 pub use drive::{simulate, Failure, Settings, Summary};
-pub use edges::{edges, Edge};
+pub use edges::{edges, Dial, Edge};
 pub use report::{Claim, Fact, Report, Tally, Violation, FACTS};
 pub use rows::rows;
 pub use run::{all_lanes, mixed, Call, Called, Run};

@@ -3,7 +3,7 @@
 use super::report::{Claim, Fact, Report, Violation};
 use super::run::{Called, Run};
 use super::tables::{Show, Tables};
-use crate::dispatch::State;
+use crate::dispatch::{start, State};
 
 /// What each lane showed, move by move.
 #[derive(Clone, Debug)]
@@ -115,10 +115,25 @@ impl Asked<'_> {
             let what = format!("lane {lane} showed {shown:?} at tick {tick}, not {entry:?}");
             self.failure(Claim::Shows, what)
         });
-        let (place, next) = (place(record), self.calendar.place(i + 1));
-        if place != next {
-            let what = format!("lane {lane} stands at {place:?}, not at {next:?}");
+        let next = self.next(lane, i, tables);
+        let stands = State {
+            kind: next.kind,
+            row: next.row,
+            ..*record
+        };
+        if stands != next {
+            let what = format!("lane {lane} stands at {stands:?}, not at {next:?}");
             report.fail(self.failure(Claim::Place, what));
+        }
+    }
+
+    /// The place after a lane's i-th move; what it shows is left out.
+    fn next(&self, lane: usize, i: usize, tables: &Tables) -> State {
+        let (cycle, tick) = self.calendar.place(i + 1);
+        State {
+            tick: tick as u32,
+            entry: tables.entry_at(lane, tick as usize) as u32,
+            ..start(cycle as u64, tables.firsts[lane])
         }
     }
 
@@ -139,9 +154,4 @@ impl Asked<'_> {
             what: format!("call {} ({call}): {what}", self.index),
         }
     }
-}
-
-/// The cycle and tick at which a record stands.
-fn place(record: &State) -> (u128, u128) {
-    (u128::from(record.cycle), u128::from(record.tick))
 }

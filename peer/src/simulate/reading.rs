@@ -68,18 +68,19 @@ impl<'a> Reading<'a> {
         reading
     }
 
-    /// Takes in one tick. Rows that the plan does not have say nothing.
+    /// Takes in one tick. Rows and jobs that there are not say nothing.
     fn take(&mut self, tick: Tick, (kind, row): Show) {
         let cycle = tick.index / self.plan.cycle as usize;
         let row = row as usize;
         match kind {
             TASK_SWITCH | WORK if row < self.plan.pieces.len() => {
                 let [task, k, ..] = self.plan.pieces[row];
-                let place = self.place(JobId { cycle, task, k });
-                let job = &mut self.jobs[place];
-                job.ran.push(tick);
-                if kind == WORK {
-                    job.worked.push(tick);
+                if k < self.plan.jobs(task) {
+                    let place = self.place(JobId { cycle, task, k });
+                    self.jobs[place].ran.push(tick);
+                    if kind == WORK {
+                        self.jobs[place].worked.push(tick);
+                    }
                 }
             }
             SENDING if row < self.plan.frames.len() => {

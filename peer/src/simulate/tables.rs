@@ -62,13 +62,21 @@ impl Tables {
         bytes
     }
 
-    /// What a lane's table has at a tick: its last entry to begin by then.
+    /// What a lane's table has at a tick.
     pub fn at(&self, lane: usize, tick: usize) -> Show {
+        let [_, kind, row] = self.entries(lane)[self.entry_at(lane, tick)];
+        (kind, row)
+    }
+
+    /// The last entry of a lane's table to begin by a tick.
+    pub fn entry_at(&self, lane: usize, tick: usize) -> usize {
+        let begun = |entry: &[u32; 3]| entry[0] as usize <= tick;
+        self.entries(lane).iter().rposition(begun).unwrap_or(0)
+    }
+
+    fn entries(&self, lane: usize) -> &[[u32; 3]] {
         let table = &self.words[self.firsts[lane] as usize..];
-        let entries = &table[2..][..3 * table[1] as usize];
-        let begun = |entry: &&[u32]| entry[0] as usize <= tick;
-        let last = entries.chunks_exact(3).take_while(begun).last();
-        last.map_or((0, 0), |entry| (entry[1], entry[2]))
+        &table[2..].as_chunks().0[..table[1] as usize]
     }
 }
 
