@@ -2,7 +2,7 @@
 
 mod cases;
 
-use cases::case_b;
+use cases::{case_a, case_b};
 use peer::boundary::{read_state, read_words, write_state, Boundary, Peer, STATE};
 use peer::generate::{shared_buffer, tiny};
 use peer::naive::Naive;
@@ -276,6 +276,21 @@ fn each_claim_fails_alone() {
         promise(&mut promised);
         assert_eq!(broken_claims(&case_b(), &promised), claims, "{number}");
     }
+}
+
+/// Work before the release: two jobs run, and both pieces are promised to
+/// the second.
+#[test]
+fn work_before_the_release_is_noticed() {
+    let mut plan = case_a();
+    plan.cycle = 20;
+    plan.windows[0][2] = 20;
+    plan.pieces.push([0, 1, 12, 4]);
+    let mut promised = plan.clone();
+    promised.pieces[0][1] = 1;
+    promised.tasks[0][4] = 10;
+    assert_eq!(broken_claims(&plan, &plan), []);
+    assert_eq!(broken_claims(&plan, &promised), [Claim::Budget, Claim::Due]);
 }
 
 /// A row of the same buffer that reaches over the holds of two others.

@@ -83,6 +83,87 @@ fn case_b_with_each_choice_of_clocks() {
     assert_eq!(broken(&early, Claim::Arrived), [[0, 1]]);
 }
 
+/// How often every lane has moved when a claim first fails.
+fn fails_after(plan: &Plan, claim: Claim) -> usize {
+    found(plan, plan.precision).violations[&claim].after
+}
+
+/// A claim fails as soon as what breaks it is shown, and not at the end of
+/// the cycle or of the run only.
+#[test]
+fn violations_show_at_once() {
+    let mut early = case_b();
+    early.pieces[1][2] = 9;
+    assert_eq!(fails_after(&early, Claim::Arrived), 10);
+    let mut late = case_b();
+    late.streams[0][2] = 12;
+    assert_eq!(fails_after(&late, Claim::Latency), 14);
+    let mut short = case_b();
+    short.pieces[0][3] = 3;
+    assert_eq!(fails_after(&short, Claim::Budget), 20);
+    for edge in edges_of(24, 60, shared_buffer) {
+        let Edge { kept, broken, .. } = edge;
+        let moved = |row: usize| kept.pieces[row][2].abs_diff(broken.pieces[row][2]) > 0;
+        let row = (0..broken.pieces.len())
+            .find(|row| moved(*row))
+            .expect("a piece has moved");
+        let [task, k, start, length] = broken.pieces[row];
+        let writes = broken.buffers.iter().any(|buffer| buffer[1] == task);
+        // A write begins a tick too soon, or its neighbour does when a read
+        // ends a tick late: either way one tick before a read is over.
+        let at = if writes { start } else { start + length - 1 };
+        assert_eq!(
+            fails_after(&broken, Claim::Hold),
+            at as usize + 1,
+            "{task} {k} {broken:?}"
+        );
+    }
+}
+
+/// Two rows of one buffer on two cores of a node, without switches; the
+/// second row's tasks run after the first one's.
+fn two_rows() -> Plan {
+    Plan {
+        cycle: 10,
+        cores: vec![[3, 0, 0]; 2],
+        vcpus: vec![[0], [1]],
+        tasks: [[0, 1], [0, 2], [1, 1], [1, 1]]
+            .map(|[vcpu, budget]| [vcpu, 3, 10, budget, 10])
+            .to_vec(),
+        windows: vec![[0, 0, 10], [1, 0, 10]],
+        pieces: vec![[0, 0, 0, 1], [1, 0, 4, 2], [2, 0, 6, 1], [3, 0, 8, 1]],
+        buffers: vec![[7, 0, 1], [7, 2, 3]],
+        ..Plan::default()
+    }
+}
+
+/// The second write in the midst of the first hold, which is still open
+/// then, and in the last tick of it.
+#[test]
+fn holds_reach_as_far_as_shown() {
+    let answer = |plan: &Plan| check(&plan.encode()).number;
+    assert_eq!(answer(&two_rows()), 0);
+    assert!(found(&two_rows(), 0).violations.is_empty());
+    for (start, after, text) in [
+        (
+            2,
+            3,
+            "buffer row 0: held in moves 0..3, task 2 inside in move 2",
+        ),
+        (
+            5,
+            6,
+            "buffer row 0: held in moves 0..6, task 2 inside in move 5",
+        ),
+    ] {
+        let mut plan = two_rows();
+        plan.pieces[2][2] = start;
+        assert_eq!(answer(&plan), 24);
+        let violation = &found(&plan, 0).violations[&Claim::Hold];
+        assert_eq!((violation.after, violation.what.as_str()), (after, text));
+    }
+}
+
 /// Edges of one question, over so many plans of a shape.
 fn edges_of(question: u32, plans: u64, shape: fn(&mut Rng) -> Plan) -> Vec<Edge> {
     let mut found = Vec::new();

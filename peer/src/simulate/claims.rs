@@ -228,14 +228,15 @@ fn ask_hold(
         let ids = reading.ids(other, reading.cycles());
         let mut ran = ids.flat_map(|id| &reading.job(id).ran);
         let tick = ran.find(|tick| hold.contains(&tick.index))?;
-        Some((other, tick.index))
+        Some(format!("task {other} inside in move {}", tick.index))
     });
     let alone = report.ask(intruder.is_none(), fact, || Violation {
         claim: Claim::Hold,
         after: reading.moves,
         clocks: None,
         what: format!(
-            "buffer row {row}: held in moves {hold:?}, task and move {intruder:?} inside"
+            "buffer row {row}: held in moves {hold:?}, {}",
+            intruder.unwrap_or_default()
         ),
     });
     if alone && !others.is_empty() {

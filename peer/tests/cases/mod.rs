@@ -1,5 +1,8 @@
 //! Cases A and B of the plan paper.
 
+// Each test file takes what it needs.
+#![allow(dead_code)]
+
 use peer::Plan;
 
 pub fn case_a() -> Plan {
