@@ -2,7 +2,7 @@
 
 mod cases;
 
-use cases::{case_a, case_b};
+use cases::{case_a, case_b, two_rows};
 use peer::boundary::{read_state, read_words, write_state, Boundary, Peer, STATE};
 use peer::generate::{shared_buffer, tiny};
 use peer::naive::Naive;
@@ -55,6 +55,7 @@ fn mixed_lists_end_level() {
 #[derive(Clone, Copy, Debug, PartialEq)]
 enum Fault {
     IdlesFromCycle1,
+    FirstLaneIdlesFromCycle1,
     NeverRuns,
     ShowsNextEntry,
     ShowsEntryBefore,
@@ -133,6 +134,9 @@ impl Faulty {
             _ if number != 0 => {}
             NeverRuns => (state.kind, state.row) = (0, 0),
             IdlesFromCycle1 if old.cycle >= 1 => (state.kind, state.row) = (0, 0),
+            FirstLaneIdlesFromCycle1 if old.cycle >= 1 && lane == 0 => {
+                (state.kind, state.row) = (0, 0);
+            }
             ShowsNextEntry => {
                 (state.kind, state.row) = (entry(state.entry)[1], entry(state.entry)[2])
             }
@@ -157,12 +161,16 @@ impl Faulty {
     }
 }
 
-/// What is found on a run of case B, or of its calendar's last cycles.
+/// What is found on a run of case B.
 fn found(fault: Fault, cycle: u64, calls: &[Call]) -> Report {
-    let plan = case_b();
-    let tables = Tables::unasked(&plan);
+    found_on(&case_b(), fault, cycle, calls)
+}
+
+fn found_on(plan: &Plan, fault: Fault, cycle: u64, calls: &[Call]) -> Report {
+    let tables = Tables::unasked(plan);
     let run = Run::make(&Faulty(fault), &tables, cycle, calls);
-    examine(&plan, &tables, &run, &choices(&plan, 1, &mut Rng::new(1)))
+    let choices = choices(plan, plan.precision, &mut Rng::new(1));
+    examine(plan, &tables, &run, &choices)
 }
 
 #[test]
@@ -170,6 +178,11 @@ fn each_fault_breaks_its_claims() {
     let last = u64::MAX - 1;
     for (fault, cycle, claims) in [
         (IdlesFromCycle1, 0, &[Claim::Shows, Claim::Budget][..]),
+        (
+            FirstLaneIdlesFromCycle1,
+            0,
+            &[Claim::Shows, Claim::Budget, Claim::Arrived],
+        ),
         (NeverRuns, 0, &[Claim::Shows, Claim::Budget]),
         (ShowsNextEntry, 0, &[Claim::Shows]),
         (ShowsEntryBefore, 0, &[Claim::Shows, Claim::Arrived]),
@@ -204,6 +217,22 @@ fn a_completed_cycle_stands() {
     let claims: Vec<&Claim> = report.violations.keys().collect();
     assert_eq!(claims, [&Claim::Shows]);
     assert!(found(IdlesFromCycle1, 0, &all_lanes(40)).has(Claim::Budget));
+}
+
+/// A hold whose reader does not run in cycle 1 stays open over the other
+/// row's write, be it in the same cycle or in the next.
+#[test]
+fn an_open_hold_reaches_on() {
+    for (other_write, other_read, after) in [(6, 8, 17), (0, 1, 21)] {
+        let mut plan = two_rows();
+        plan.tasks[0][0] = 1;
+        plan.pieces[0][2] = 3;
+        plan.pieces[2][2] = other_write;
+        plan.pieces[3][2] = other_read;
+        let report = found_on(&plan, FirstLaneIdlesFromCycle1, 0, &all_lanes(30));
+        let violation = &report.violations[&Claim::Hold];
+        assert_eq!(violation.after, after, "{}", violation.what);
+    }
 }
 
 #[test]

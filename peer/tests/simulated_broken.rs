@@ -2,7 +2,7 @@
 
 mod cases;
 
-use cases::case_b;
+use cases::{case_b, two_rows};
 use peer::generate::{shared_buffer, tiny};
 use peer::simulate::{
     choices, edges, survey, unchecked, Claim, Clocks, Dial, Edge, Noticed, Report, Settings,
@@ -117,23 +117,6 @@ fn violations_show_at_once() {
             at as usize + 1,
             "{task} {k} {broken:?}"
         );
-    }
-}
-
-/// Two rows of one buffer on two cores of a node, without switches; the
-/// second row's tasks run after the first one's.
-fn two_rows() -> Plan {
-    Plan {
-        cycle: 10,
-        cores: vec![[3, 0, 0]; 2],
-        vcpus: vec![[0], [1]],
-        tasks: [[0, 1], [0, 2], [1, 1], [1, 1]]
-            .map(|[vcpu, budget]| [vcpu, 3, 10, budget, 10])
-            .to_vec(),
-        windows: vec![[0, 0, 10], [1, 0, 10]],
-        pieces: vec![[0, 0, 0, 1], [1, 0, 4, 2], [2, 0, 6, 1], [3, 0, 8, 1]],
-        buffers: vec![[7, 0, 1], [7, 2, 3]],
-        ..Plan::default()
     }
 }
 

@@ -28,7 +28,7 @@ pub fn ask_jobs(plan: &Plan, reading: &Reading, report: &mut Report) {
 }
 
 fn ask_job(plan: &Plan, reading: &Reading, id: JobId, report: &mut Report) {
-    let [vcpu, _, period, budget, deadline] = plan.tasks[id.task as usize];
+    let budget = plan.tasks[id.task as usize][3];
     let worked = &reading.job(id).worked;
     let failure = |claim: Claim, what: String| Violation {
         claim,
@@ -40,26 +40,35 @@ fn ask_job(plan: &Plan, reading: &Reading, id: JobId, report: &mut Report) {
         let what = format!("worked {} ticks, C is {budget}", worked.len());
         failure(Claim::Budget, what)
     });
-    let core = plan.core_of_vcpu(vcpu) as usize;
-    let release = id.k * period;
-    for tick in worked {
-        let at = (tick.index % plan.cycle as usize) as u32;
-        let in_window = plan.windows.iter().any(|&[owner, start, length]| {
-            let work = start + plan.vcpu_switch(vcpu)..start + length;
-            owner == vcpu && work.contains(&at)
-        });
-        let in_time = (release..release + deadline).contains(&at);
-        let broken = [
-            (tick.lane != core, Claim::Core),
-            (!in_time, Claim::Due),
-            (!in_window, Claim::Window),
-        ];
-        for (_, claim) in broken.into_iter().filter(|(fails, _)| *fails) {
-            let what = format!("worked on lane {} at tick {at}", tick.lane);
+    for &tick in worked {
+        for claim in broken_by_work(plan, id, tick) {
+            let what = format!("worked on lane {} in move {}", tick.lane, tick.index);
             report.fail(failure(claim, what));
         }
         report.tally.count(Fact::TickWorked);
     }
+}
+
+/// The claims that a job breaks by working in a tick.
+fn broken_by_work(plan: &Plan, id: JobId, tick: Tick) -> Vec<Claim> {
+    let [vcpu, _, period, _, deadline] = plan.tasks[id.task as usize];
+    let at = tick.index as u32 % plan.cycle;
+    let release = id.k * period;
+    let in_window = plan.windows.iter().any(|&[owner, start, length]| {
+        let work = start + plan.vcpu_switch(vcpu)..start + length;
+        owner == vcpu && work.contains(&at)
+    });
+    let mut broken = Vec::new();
+    if tick.lane != plan.core_of_vcpu(vcpu) as usize {
+        broken.push(Claim::Core);
+    }
+    if !(release..release + deadline).contains(&at) {
+        broken.push(Claim::Due);
+    }
+    if !in_window {
+        broken.push(Claim::Window);
+    }
+    broken
 }
 
 fn name(id: JobId) -> String {

@@ -44,7 +44,8 @@ pub struct Summary {
 #[derive(Clone, Debug)]
 pub struct Failure {
     number: u64,
-    plan: Plan,
+    /// The plan's rows.
+    rows: String,
     /// The start's cycle and the calls, where there was a run.
     list: Option<String>,
     what: String,
@@ -53,7 +54,7 @@ pub struct Failure {
 impl fmt::Display for Failure {
     fn fmt(&self, out: &mut fmt::Formatter<'_>) -> fmt::Result {
         writeln!(out, "failure in plan {}", self.number)?;
-        write!(out, "{}", rows(&self.plan))?;
+        write!(out, "{}", self.rows)?;
         if let Some(list) = &self.list {
             writeln!(out, "calls: {list}")?;
         }
@@ -110,7 +111,7 @@ impl Case<'_> {
         let list = |run: &Run| format!("start in cycle {}, then {}", run.cycle, run.list());
         Failure {
             number: self.number,
-            plan: self.plan.clone(),
+            rows: rows(self.plan),
             list: run.map(list),
             what,
         }
@@ -151,7 +152,7 @@ impl Case<'_> {
         }
         match runs.iter().find(|run| **run != runs[0]) {
             None => Ok(()),
-            Some(run) => Err(self.failure(Some(run), "runs differ".to_string())),
+            Some(run) => Err(self.failure(Some(run), difference(&runs[0], run))),
         }
     }
 
@@ -160,6 +161,17 @@ impl Case<'_> {
         match report.violations.values().next() {
             None => Ok(()),
             Some(violation) => Err(self.failure(run, violation.to_string())),
+        }
+    }
+}
+
+/// The first call in which two runs of one list differ.
+fn difference(ours: &Run, theirs: &Run) -> String {
+    let mut calls = ours.calls.iter().zip(&theirs.calls).enumerate();
+    match calls.find(|(_, (ours, theirs))| ours != theirs) {
+        None => "runs differ in their starts".to_string(),
+        Some((index, (ours, theirs))) => {
+            format!("runs differ in call {index}\nours: {ours:?}\ntheirs: {theirs:?}")
         }
     }
 }

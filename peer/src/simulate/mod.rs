@@ -63,9 +63,15 @@ fn ask(plan: &Plan, reading: &Reading, messages: &[Messages], report: &mut Repor
 }
 
 /// Runs a plan for two cycles from cycle 0, without asking the check.
-pub fn unchecked(plan: &Plan, choices: &[Clocks]) -> Report {
+pub fn run_unchecked(plan: &Plan) -> (Tables, Run) {
     let tables = Tables::unasked(plan);
     let calls = all_lanes(2 * plan.cycle as usize);
     let run = Run::make(&Peer, &tables, 0, &calls);
+    (tables, run)
+}
+
+/// Asks every claim of such a run.
+pub fn unchecked(plan: &Plan, choices: &[Clocks]) -> Report {
+    let (tables, run) = run_unchecked(plan);
     examine(plan, &tables, &run, choices)
 }

@@ -1,7 +1,7 @@
 //! Broken plans, run without asking the check.
 
 use super::drive::Case;
-use super::{edges, unchecked, Claim, Clocks, Failure, Settings};
+use super::{edges, run_unchecked, unchecked, Claim, Clocks, Failure, Settings};
 use crate::check::check;
 use crate::generate;
 use crate::image::Plan;
@@ -71,7 +71,8 @@ fn survey_edges(
         let mut of_question = edges.iter().filter(|edge| edge.question == question);
         if let Some(edge) = of_question.next() {
             let kept = Case::new(number, &edge.kept, rng);
-            kept.require_none(&unchecked(kept.plan, &kept.choices), None)?;
+            let (_, run) = run_unchecked(kept.plan);
+            kept.require_none(&unchecked(kept.plan, &kept.choices), Some(&run))?;
             let broken = Case::new(number, &edge.broken, rng);
             run_broken(&broken, question, found)?;
         }
@@ -119,7 +120,8 @@ fn run_broken(case: &Case, question: u32, found: &mut Noticed) -> Result<(), Fai
         found.harmless += 1;
     } else {
         let what = format!("question {question} is broken, and {guarded:?} holds");
-        return Err(case.failure(None, what));
+        let (_, run) = run_unchecked(case.plan);
+        return Err(case.failure(Some(&run), what));
     }
     Ok(())
 }

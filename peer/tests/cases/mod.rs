@@ -1,4 +1,4 @@
-//! Cases A and B of the plan paper.
+//! Cases A and B of the plan paper, and one with a shared buffer.
 
 // Each test file takes what it needs.
 #![allow(dead_code)]
@@ -31,5 +31,22 @@ pub fn case_b() -> Plan {
         streams: vec![[0, 1, 13, 1, 2]],
         frames: vec![[0, 0, 0, 0, 6]],
         buffers: vec![],
+    }
+}
+
+/// Two rows of one buffer on two cores of a node, without switches; the
+/// second row's tasks run after the first one's.
+pub fn two_rows() -> Plan {
+    Plan {
+        cycle: 10,
+        cores: vec![[3, 0, 0]; 2],
+        vcpus: vec![[0], [1]],
+        tasks: [[0, 1], [0, 2], [1, 1], [1, 1]]
+            .map(|[vcpu, budget]| [vcpu, 3, 10, budget, 10])
+            .to_vec(),
+        windows: vec![[0, 0, 10], [1, 0, 10]],
+        pieces: vec![[0, 0, 0, 1], [1, 0, 4, 2], [2, 0, 6, 1], [3, 0, 8, 1]],
+        buffers: vec![[7, 0, 1], [7, 2, 3]],
+        ..Plan::default()
     }
 }
