@@ -1,5 +1,6 @@
-//! Links libreaperdecade.a into the binary `differential`, and into nothing
-//! else, when the environment variable RD_LIB_DIR names its directory.
+//! Links libreaperdecade.a into the binaries `differential` and `simulate`,
+//! and into nothing else, when the environment variable RD_LIB_DIR names its
+//! directory.
 //!
 //! A static library made by Rust brings parts of Rust's runtime with it, and
 //! so does the binary. To keep the two apart, the library is first made one
@@ -19,7 +20,9 @@ fn main() {
         println!("cargo:rerun-if-changed={}", library.display());
         println!("cargo:rustc-cfg=rd_lib");
         let object = sealed(&library).unwrap_or(library);
-        println!("cargo:rustc-link-arg-bin=differential={}", object.display());
+        for binary in ["differential", "simulate"] {
+            println!("cargo:rustc-link-arg-bin={binary}={}", object.display());
+        }
     }
 }
 
