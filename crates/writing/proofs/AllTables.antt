@@ -15,7 +15,8 @@ use Rattle.plan.specs.Questions.{questions, answerOf, answerTo, accepted, whole
 use Rattle.plan.specs.Dispatch.{lanes, begins, entryCount, tableOf}
 use Rattle.plan.proofs.Asking.{then-asked, stopped-first}
 use Rattle.plan.proofs.Searching.{count-most}
-use Rattle.lanes.proofs.Accepted.{sound, cycle-small}
+use Rattle.lanes.proofs.Accepted.{cycle-small}
+use Rattle.plan.proofs.Sounds.{accepted-sound}
 use Rattle.lanes.proofs.Building.{real, asked, whole-yes, whole-no}
 use Rattle.writing.specs.Stored.{stored}
 use Rattle.writing.specs.AllTables.{tablesBelow, allTables, firstWord, allAnswer, allBytes, BuiltAll}
@@ -55,7 +56,7 @@ module _ (s : List ℕ) where
 
     pub lanes-small : lanes s ≤ 96
     unfolding lanes shape
-    lanes-small = let k = sound s e .inside .counts in omega (arith, k Cores, k Links)
+    lanes-small = let k = accepted-sound s e .inside .counts in omega (arith, k Cores, k Links)
 
     pub below-small : (n : ℕ) → length (tablesBelow s n) ≤ 3000002 * n
     unfolding tablesBelow

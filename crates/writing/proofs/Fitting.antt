@@ -14,7 +14,8 @@ use Rattle.plan.specs.Search.{first}
 use Rattle.plan.specs.Questions.{answerOf, accepted, switchTicks, charge}
 use Rattle.plan.specs.Dispatch.{Shown, show, pieceAt, windowAt, frameAt, onCore, onLink, shownAt, begins, entries, tableOf}
 use Rattle.plan.proofs.Searching.{at-iff}
-use Rattle.lanes.proofs.Accepted.{sound, cycle-small}
+use Rattle.lanes.proofs.Accepted.{cycle-small}
+use Rattle.plan.proofs.Sounds.{accepted-sound}
 use Rattle.writing.specs.AllTables.{tablesBelow}
 use Rattle.writing.proofs.Words.{Fit, fit-append}
 use Rattle.writing.proofs.AllTables.{count-small}
@@ -37,7 +38,7 @@ found-below n test i e = at-iff (λ j. not (test j)) n i .0 e .below
 
 module _ (s : List ℕ) (e : answerOf s ≡ accepted) where
   rows-small : (t : Table) → shape t .most < 2 ^ 32 → (i : ℕ) → i < rows s t → i < 2 ^ 32
-  rows-small t h i l = omega (arith, sound s e .inside .counts t)
+  rows-small t h i l = omega (arith, accepted-sound s e .inside .counts t)
 
   core-narrow : (core t : ℕ) → Narrow (onCore s core t)
   unfolding onCore pieceAt windowAt shape
