@@ -147,6 +147,32 @@ fn holds_reach_as_far_as_shown() {
     }
 }
 
+type Change = fn(&mut Plan);
+
+/// What 'Runs' does not claim: masks, nodes, routes, and that a read starts
+/// when its write has ended.
+#[test]
+fn questions_that_no_run_shows() {
+    let unseen: [(u32, Plan, Change); 5] = [
+        (9, case_b(), |plan| plan.tasks[0][1] = 2),
+        (14, case_b(), |plan| plan.cores[1][0] = 0),
+        (17, case_b(), |plan| plan.links[0][1] = 2),
+        (22, two_rows(), |plan| {
+            plan.cores[1][0] = 4;
+            plan.buffers = vec![[7, 0, 3]];
+        }),
+        (23, two_rows(), |plan| {
+            plan.pieces[2][2] = 5;
+            plan.buffers = vec![[7, 1, 2]];
+        }),
+    ];
+    for (question, mut plan, change) in unseen {
+        change(&mut plan);
+        assert_eq!(check(&plan.encode()).number, question);
+        assert!(found(&plan, plan.precision).violations.is_empty());
+    }
+}
+
 /// Edges of one question, over so many plans of a shape.
 fn edges_of(question: u32, plans: u64, shape: fn(&mut Rng) -> Plan) -> Vec<Edge> {
     let mut found = Vec::new();
