@@ -1,12 +1,11 @@
-//! Links libreaperdecade.a into the binaries `differential` and `simulate`,
-//! and into nothing else, when the environment variable RD_LIB_DIR names its
-//! directory.
+//! Takes libreaperdecade.a into the package when the environment variable
+//! RD_LIB_DIR names its directory, for the module `library`.
 //!
 //! A static library made by Rust brings parts of Rust's runtime with it, and
-//! so does the binary. To keep the two apart, the library is first made one
+//! so does a binary. To keep the two apart, the library is first made one
 //! object that shows only the five functions of the C boundary.
 
-use std::path::{Path, PathBuf};
+use std::path::Path;
 use std::process::Command;
 
 const FUNCTIONS: [&str; 5] = ["rd_check", "rd_build", "rd_start", "rd_step", "rd_step_all"];
@@ -19,18 +18,27 @@ fn main() {
         let library = Path::new(&directory).join("libreaperdecade.a");
         println!("cargo:rerun-if-changed={}", library.display());
         println!("cargo:rustc-cfg=rd_lib");
-        let object = sealed(&library).unwrap_or(library);
-        for binary in ["differential", "simulate"] {
-            println!("cargo:rustc-link-arg-bin={binary}={}", object.display());
-        }
+        take(&library);
     }
 }
 
-/// One object of the library that shows its C functions only; none, with a
-/// warning, where binutils cannot make it.
-fn sealed(library: &Path) -> Option<PathBuf> {
-    let directory = std::env::var_os("OUT_DIR").expect("cargo sets OUT_DIR");
-    let object = Path::new(&directory).join("reaperdecade.o");
+/// Has the library linked, sealed if binutils can do it.
+fn take(library: &Path) {
+    let out = std::env::var("OUT_DIR").expect("cargo sets OUT_DIR");
+    let directory = library.parent().expect("the library is in a directory");
+    let (directory, name) = if seal(library, Path::new(&out)) {
+        (Path::new(&out), "sealed")
+    } else {
+        (directory, "reaperdecade")
+    };
+    println!("cargo:rustc-link-search=native={}", directory.display());
+    println!("cargo:rustc-link-lib=static={name}");
+}
+
+/// Writes libsealed.a: one object of the library that shows its C functions
+/// only. Gives whether it could.
+fn seal(library: &Path, out: &Path) -> bool {
+    let object = out.join("reaperdecade.o");
     let mut link = Command::new("ld");
     link.args(["-r", "--force-group-allocation", "--gc-sections", "-o"]);
     link.arg(&object);
@@ -39,7 +47,9 @@ fn sealed(library: &Path) -> Option<PathBuf> {
     let mut hide = Command::new("objcopy");
     hide.args(FUNCTIONS.map(|name| format!("--keep-global-symbol={name}")));
     hide.arg(&object);
-    (succeeds(link) && succeeds(hide)).then_some(object)
+    let mut archive = Command::new("ar");
+    archive.arg("crs").arg(out.join("libsealed.a")).arg(&object);
+    [link, hide, archive].into_iter().all(succeeds)
 }
 
 fn succeeds(mut command: Command) -> bool {

@@ -30,6 +30,17 @@ pub fn lanes(image: &[u8]) -> Result<Vec<Vec<Entry>>, Answer> {
     Ok(lanes.map(|lane| lane_entries(&plan, lane)).collect())
 }
 
+/// The words of every lane's table of an accepted image, lanes rising.
+pub fn tables(image: &[u8]) -> Result<Vec<Vec<u32>>, Answer> {
+    let plan = examine(image)?;
+    let table = |lane| {
+        let entries = lane_entries(&plan, lane);
+        let head = [plan.cycle, entries.len() as u32];
+        [&head, entries.as_flattened()].concat()
+    };
+    Ok((0..plan.lanes()).map(table).collect())
+}
+
 fn try_build(image: &[u8], lane: u32, words: &mut [u32]) -> Result<(), Answer> {
     let plan = examine(image)?;
     let lane = lane as usize;

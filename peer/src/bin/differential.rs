@@ -6,12 +6,10 @@
 //! set, each image's number goes to standard error before its calls.
 
 #[cfg(rd_lib)]
-mod library;
-
-#[cfg(rd_lib)]
 fn main() -> std::process::ExitCode {
     use peer::boundary::Peer;
     use peer::harness::{run, Settings};
+    use peer::library::Library;
 
     let [cases, seed, first_case] = peer::arguments([20_000, 1, 0]);
     let settings = Settings {
@@ -21,21 +19,30 @@ fn main() -> std::process::ExitCode {
         large: true,
         trace: std::env::var_os("PEER_TRACE").is_some(),
     };
-    match run(&settings, &Peer, &library::Library) {
+    match run(&settings, &Peer, &Library) {
         Err(difference) => {
             print!("{difference}");
             std::process::ExitCode::FAILURE
         }
         Ok(summary) => {
-            for (number, count) in summary.refusals.iter().enumerate() {
-                let percent = 100.0 * *count as f64 / settings.cases as f64;
-                println!("{number:2} {count:7} {percent:6.2} %");
-            }
-            println!("{:?}", summary.calls);
-            println!("{} calls, no difference", summary.calls.total());
+            report(&summary);
             std::process::ExitCode::SUCCESS
         }
     }
+}
+
+#[cfg(rd_lib)]
+fn report(summary: &peer::harness::Summary) {
+    println!("mutants by the question that refuses them first:");
+    print!("{}", summary.mutants);
+    let rare = summary.mutants.rare();
+    if !rare.is_empty() {
+        println!("below 1 % of the mutants: {rare:?}");
+    }
+    let (mutants, others) = (summary.mutants.total(), summary.others.total());
+    println!("{} images, {mutants} of them mutants", mutants + others);
+    println!("{:?}", summary.calls);
+    println!("{} calls, no difference", summary.calls.total());
 }
 
 #[cfg(not(rd_lib))]

@@ -6,9 +6,6 @@
 //! package's own tables and steps, and compares. Exits with 1 on the first
 //! failure, which it prints with the plan.
 
-#[cfg(rd_lib)]
-mod library;
-
 use std::process::ExitCode;
 
 use peer::boundary::{Boundary, Peer};
@@ -24,7 +21,7 @@ fn main() -> ExitCode {
     let all: Vec<&dyn Boundary> = vec![
         &Peer,
         #[cfg(rd_lib)]
-        &library::Library,
+        &peer::library::Library,
     ];
     println!("implementations: {}", all.len());
     let found = simulate(&settings, &all).map(print_summary);

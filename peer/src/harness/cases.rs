@@ -5,75 +5,80 @@ use super::pair::{Difference, Pair};
 use crate::boundary::{write_state, write_words, STATE};
 use crate::dispatch::{start, State};
 use crate::generate;
-use crate::image::{set_word, Plan, TRAILER, WORD};
+use crate::image::{set_word, TRAILER, WORD};
 use crate::mutate::{mutant, mutate};
 use crate::rng::Rng;
-use crate::table::{lanes, Entry};
+use crate::table::tables;
 
-/// Runs a case and gives the number of the question that refused its image.
-pub fn run(case: u64, large: bool, pair: &mut Pair, rng: &mut Rng) -> Result<u32, Difference> {
-    let image = if large {
+/// What a case came to.
+pub struct Outcome {
+    /// The number of the question that refused its image first, or 0.
+    pub number: u32,
+    pub is_mutant: bool,
+}
+
+/// Runs a case.
+pub fn run(case: u64, large: bool, pair: &mut Pair, rng: &mut Rng) -> Result<Outcome, Difference> {
+    let (image, is_mutant) = if large {
         image_of(case, rng)
     } else {
         small_image(rng)
     };
     let lent = Lent::of(&image, rng);
+    let before = lent.clone();
     let number = (pair.check(lent.part())? & 0xFFFF) as u32;
     if number == 0 {
-        let tables = tables(&image);
+        let tables = tables(&image).expect("our own check accepts");
         build_all(pair, lent.part(), &tables, rng)?;
         Run::new(pair, &tables, rng)?.run(pair, rng)?;
     } else {
         build_refused(pair, lent.part(), rng)?;
     }
-    if lent.part() != image {
+    if lent != before {
         return Err(Difference::of_image(&image, lent.part()));
     }
     for _ in 0..4 {
         rough_steps(pair, rng)?;
     }
-    Ok(number)
+    noise_steps(pair, rng)?;
+    Ok(Outcome { number, is_mutant })
 }
 
-/// The tables of all lanes of an image that our own check accepts.
-fn tables(image: &[u8]) -> Vec<Vec<u32>> {
-    let cycle = Plan::decode(image).cycle;
-    let lanes = lanes(image).expect("our own check accepts");
-    let table = |entries: &Vec<Entry>| {
-        let head = [cycle, entries.len() as u32];
-        [&head, entries.as_flattened()].concat()
-    };
-    lanes.iter().map(table).collect()
-}
+/// An image, and whether it is a mutant. Most are.
+type Image = (Vec<u8>, bool);
 
-/// Mostly mutants; every thousandth image is of the largest there are.
-fn image_of(case: u64, rng: &mut Rng) -> Vec<u8> {
+/// Every four thousandth image is the fullest there is: with all lanes built
+/// three times, each after a check, it takes as long as a thousand others.
+fn image_of(case: u64, rng: &mut Rng) -> Image {
+    match case % 4_000 {
+        0 => return (generate::full(rng).encode(), false),
+        2_000 => return (mutate(&generate::full(rng), rng), true),
+        _ => (),
+    }
     match case % 1_000 {
-        0 => generate::full(rng).encode(),
-        125 | 625 => generate::large(rng).encode(),
-        250 => mutate(&generate::full(rng), rng),
-        375 | 875 => mutate(&generate::large(rng), rng),
-        500 => generate::busy_core(rng).encode(),
-        750 => mutate(&generate::busy_core(rng), rng),
+        125 | 625 => (generate::large(rng).encode(), false),
+        375 | 875 => (mutate(&generate::large(rng), rng), true),
+        500 => (generate::busy_core(rng).encode(), false),
+        750 => (mutate(&generate::busy_core(rng), rng), true),
         _ => match rng.below(100) {
-            0..=1 => random_bytes(rng),
-            2..=12 => generate::accepted(rng).encode(),
-            _ => mutant(rng),
+            0..=1 => (random_bytes(rng), false),
+            2..=12 => (generate::accepted(rng).encode(), false),
+            _ => (mutant(rng), true),
         },
     }
 }
 
 /// The same without the largest.
-fn small_image(rng: &mut Rng) -> Vec<u8> {
+fn small_image(rng: &mut Rng) -> Image {
     let plan = if rng.chance(30) {
         generate::small(rng)
     } else {
         generate::small_rich(rng)
     };
     match rng.below(10) {
-        0..=2 => plan.encode(),
-        3 => random_bytes(rng),
-        _ => mutate(&plan, rng),
+        0..=2 => (plan.encode(), false),
+        3 => (random_bytes(rng), false),
+        _ => (mutate(&plan, rng), true),
     }
 }
 
@@ -338,6 +343,20 @@ fn rough_steps(pair: &mut Pair, rng: &mut Rng) -> Result<(), Difference> {
     let mut record = Lent::of(&write_state(&rough_state(rng)), rng);
     pair.step(&words, &mut record)?;
     pair.step(&words, &mut record)?;
+    Ok(())
+}
+
+/// Starts and steps over bytes that are nothing at all, of any lengths.
+fn noise_steps(pair: &mut Pair, rng: &mut Rng) -> Result<(), Difference> {
+    let length = rng.below(200);
+    let words = Lent::noise(length, rng);
+    let lengths = [STATE, rng.below(2 * STATE)];
+    for length in lengths {
+        pair.start(rng.next(), rng.word(), &mut Lent::noise(length, rng))?;
+        pair.step(&words, &mut Lent::noise(length, rng))?;
+    }
+    let length = rng.below(4 * STATE);
+    pair.step_all(&words, &mut Lent::noise(length, rng))?;
     Ok(())
 }
 

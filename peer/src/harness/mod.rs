@@ -8,9 +8,11 @@ mod lent;
 mod pair;
 
 use crate::boundary::Boundary;
+use crate::histogram::Histogram;
 use crate::rng::Rng;
 
-pub use pair::{Calls, Difference};
+pub use lent::Lent;
+pub use pair::{Calls, Difference, Pair};
 
 /// What to run.
 #[derive(Clone, Copy, Debug)]
@@ -29,8 +31,10 @@ pub struct Settings {
 /// What was run without a difference.
 #[derive(Clone, Debug, Default)]
 pub struct Summary {
-    /// How many images each question refused first, and how many none did.
-    pub refusals: [u64; 25],
+    /// How many mutants each question refused first, and how many none did.
+    pub mutants: Histogram,
+    /// The same of all other images.
+    pub others: Histogram,
     pub calls: Calls,
 }
 
@@ -47,9 +51,14 @@ pub fn run(
             eprintln!("case {case}");
         }
         let mut rng = Rng::for_case(settings.seed, case);
-        let number = cases::run(case, settings.large, &mut pair, &mut rng)
+        let outcome = cases::run(case, settings.large, &mut pair, &mut rng)
             .map_err(|difference| difference.in_case(case))?;
-        summary.refusals[number as usize] += 1;
+        let images = if outcome.is_mutant {
+            &mut summary.mutants
+        } else {
+            &mut summary.others
+        };
+        images.count(outcome.number);
     }
     summary.calls = pair.calls;
     Ok(summary)

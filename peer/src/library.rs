@@ -1,6 +1,6 @@
-//! The library's C functions, over slices.
+//! The library's C functions, over slices. There where RD_LIB_DIR is set.
 
-use peer::boundary::Boundary;
+use crate::boundary::Boundary;
 
 extern "C" {
     fn rd_check(image: *const u8, image_len: usize) -> u64;

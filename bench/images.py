@@ -1,0 +1,126 @@
+#!/usr/bin/env python3
+"""images.py SHAPE [SIZE]: writes a plan image that is hard for a checker, or one of a size, to standard output."""
+import struct
+import sys
+
+NAMES = ["core", "vcpu", "task", "window", "piece", "link", "stream", "frame", "buffer"]
+
+
+def encode(cycle, **tables):
+    """The image of tables given by name; those not named are empty. P is 0."""
+    body, trailer = [], [cycle, 0]
+    for name in NAMES:
+        rows = tables.get(name, [])
+        trailer += [4 * len(body), len(rows)]
+        for row in rows:
+            body += row
+    words = body + trailer + [4 * len(body)]
+    return struct.pack(f"<{len(words)}I", *words)
+
+
+def many_jobs():
+    """H = 1,000,000 and T = 1 for 256 tasks of one core. Task 0 has a piece in each of its first 2,048 jobs, so that question 13 looks
+    at as many jobs as it ever can before it says no: 13 3 0."""
+    pieces = [[0, k, k, 1] for k in range(2048)]
+    return encode(1_000_000, core=[[0, 0, 0]], vcpu=[[0]], task=[[0, 1, 1, 1, 1]] * 256, window=[[0, 0, 1_000_000]], piece=pieces)
+
+
+def windows():
+    """1,024 windows of one core and nothing else."""
+    return encode(1024, core=[[0, 0, 0]], vcpu=[[0]], window=[[0, start, 1] for start in range(1024)])
+
+
+def one_job():
+    """2,048 pieces of one job of one task in one window."""
+    pieces = [[0, 0, start, 1] for start in range(2048)]
+    return encode(2048, core=[[0, 0, 0]], vcpu=[[0]], task=[[0, 1, 2048, 2048, 2048]], window=[[0, 0, 2048]], piece=pieces)
+
+
+def unit_jobs():
+    """2,048 jobs of one tick of one task, in one window."""
+    pieces = [[0, k, k, 1] for k in range(2048)]
+    return encode(2048, core=[[0, 0, 0]], vcpu=[[0]], task=[[0, 1, 1, 1, 1]], window=[[0, 0, 2048]], piece=pieces)
+
+
+def last_window():
+    """2,048 pieces of 256 tasks, all in the last of 1,024 windows of one core."""
+    tasks = [[0, 1, 4096, 8, 4096]] * 256
+    windows = [[0, 2048 + 2 * row, 1] for row in range(1023)] + [[0, 0, 2048]]
+    pieces = [[start % 256, 0, start, 1] for start in range(2048)]
+    return encode(4096, core=[[0, 0, 0]], vcpu=[[0]], task=tasks, window=windows, piece=pieces)
+
+
+def long_buffers():
+    """64 buffers between the same two tasks of 1,024 jobs each."""
+    pieces = [[task, k, 2 * k + task, 1] for k in range(1024) for task in (0, 1)]
+    buffers = [[number, 0, 1] for number in range(64)]
+    tasks = [[0, 1, 2, 1, 2]] * 2
+    return encode(2048, core=[[0, 0, 0]], vcpu=[[0]], task=tasks, window=[[0, 0, 2048]], piece=pieces, buffer=buffers)
+
+
+def slots(count):
+    """H and the rows, without windows, of so many transactions of eight jobs. Each has four tasks, two on either of two nodes, a stream of
+    one hop from the first to the third and a buffer from the first to the second: 32 pieces in all. In every period each has 16 ticks
+    of its own."""
+    period = 16 * count
+    rows = {name: [] for name in NAMES}
+    rows["core"] = [[0, 1, 1], [1, 1, 1]]
+    rows["vcpu"] = [[0], [1]]
+    rows["link"] = [[0, 1, 1]]
+    for number in range(count):
+        first = 4 * number
+        rows["task"] += [[vcpu, 3, period, 2, period] for vcpu in (0, 0, 1, 1)]
+        rows["stream"].append([first, first + 2, 0, 1, 2])
+        rows["buffer"].append([number, first, first + 1])
+        for k in range(8):
+            start = k * period + 16 * number
+            rows["piece"] += [[first + task, k, start + at, 3] for task, at in enumerate((1, 4, 8, 11))]
+            rows["frame"].append([number, k, 0, 0, start + 4])
+    return 8 * period, rows
+
+
+def transactions(count):
+    """The slots with a window for every two pieces."""
+    cycle, rows = slots(count)
+    starts = range(0, cycle, 16)
+    rows["window"] = [[0, start, 8] for start in starts] + [[1, start + 7, 8] for start in starts]
+    return encode(cycle, **rows)
+
+
+def pieces(count):
+    """Transactions by their number of pieces."""
+    return transactions(count // 32)
+
+
+def hard_rows():
+    """64 transactions whose windows come last, after 1,022 of a third core, and whose buffers have one number."""
+    cycle, rows = slots(64)
+    rows["core"].append([2, 0, 0])
+    rows["vcpu"].append([2])
+    rows["window"] = [[2, start, 1] for start in range(1022)] + [[0, 0, cycle], [1, 0, cycle]]
+    rows["buffer"] = [[0, writer, reader] for _, writer, reader in rows["buffer"]]
+    return cycle, rows
+
+
+def one_number():
+    """The hard rows, accepted."""
+    cycle, rows = hard_rows()
+    return encode(cycle, **rows)
+
+
+def refused_late():
+    """The hard rows, and the last buffer row repeats the one before it: 24 9 63."""
+    cycle, rows = hard_rows()
+    rows["buffer"][63] = rows["buffer"][62]
+    return encode(cycle, **rows)
+
+
+SHAPES = [many_jobs, windows, one_job, unit_jobs, last_window, long_buffers, one_number, refused_late, pieces]
+
+
+def image(shape, *size):
+    return next(make for make in SHAPES if make.__name__ == shape)(*size)
+
+
+if __name__ == "__main__":
+    sys.stdout.buffer.write(image(sys.argv[1], *map(int, sys.argv[2:])))

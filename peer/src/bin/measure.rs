@@ -1,0 +1,153 @@
+//! Calls what is to be measured, of the library and of this package, on one
+//! image.
+//!
+//! Arguments: the image's file, and how long each is repeated in milliseconds
+//! (0: once, for callgrind). Prints a line for each, in a fixed order: whose,
+//! which, nanoseconds. Each is called once on a small plan first, so that what
+//! happens only once is not measured. Build with RD_LIB_DIR.
+
+#[cfg(rd_lib)]
+mod ops {
+    use peer::boundary::{Boundary, Peer, STATE};
+    use peer::library::Library;
+    use peer::{start, step, step_all, tables, State};
+
+    /// What can be called on an image, with all that it needs.
+    pub struct Ops {
+        image: Vec<u8>,
+        /// The tables of all lanes, as the peer has them; none where the image is refused.
+        tables: Vec<Vec<u32>>,
+        words: Vec<u8>,
+        firsts: Vec<u32>,
+    }
+
+    pub type Op<'a> = (&'static str, &'static str, Box<dyn FnMut() + 'a>);
+
+    impl Ops {
+        pub fn new(image: Vec<u8>) -> Ops {
+            let tables = tables(&image).unwrap_or_default();
+            let mut words: Vec<u32> = Vec::new();
+            let mut firsts = Vec::new();
+            for table in &tables {
+                firsts.push(words.len() as u32);
+                words.extend_from_slice(table);
+            }
+            let words = words.iter().flat_map(|word| word.to_le_bytes()).collect();
+            Ops {
+                image,
+                tables,
+                words,
+                firsts,
+            }
+        }
+
+        /// All that can be measured: of a refused image, the check alone.
+        pub fn all(&self) -> Vec<Op<'_>> {
+            let mut ops = vec![
+                self.op("ours", "check", || self.check(&Library)),
+                self.op("peer", "check", || self.check(&Peer)),
+            ];
+            if !self.tables.is_empty() {
+                ops.push(self.op("ours", "build of each lane", || self.build(&Library)));
+                ops.push(self.op("peer", "build of each lane", || self.build(&Peer)));
+                ops.push(self.op("peer", "all lanes after one check", || {
+                    assert!(tables(&self.image).is_ok());
+                }));
+                self.add_steps(&mut ops);
+            }
+            ops
+        }
+
+        fn op<'a>(
+            &self,
+            whose: &'static str,
+            which: &'static str,
+            call: impl FnMut() + 'a,
+        ) -> Op<'a> {
+            (whose, which, Box::new(call))
+        }
+
+        fn check(&self, of: &dyn Boundary) {
+            of.check(&self.image);
+        }
+
+        /// Builds every lane with words that just suffice.
+        fn build(&self, of: &dyn Boundary) {
+            let mut words = vec![0; self.words.len()];
+            for (lane, table) in (0..).zip(&self.tables) {
+                let answer = of.build(&self.image, lane, &mut words[..4 * table.len()]);
+                assert_eq!(answer, 0);
+            }
+        }
+
+        /// Steps of lane 0 and of all lanes. The library's are over bytes, the peer's over words, as it has them.
+        fn add_steps<'a>(&'a self, ops: &mut Vec<Op<'a>>) {
+            let mut bytes = vec![0; STATE * self.firsts.len()];
+            for (state, &first) in bytes.chunks_mut(STATE).zip(&self.firsts) {
+                Library.start(0, first, state);
+            }
+            let mut one = bytes[..STATE].to_vec();
+            ops.push(self.op("ours", "step of one lane", move || {
+                assert_eq!(Library.step(&self.words, &mut one), 0);
+            }));
+            let words = self.tables.concat();
+            let mut states: Vec<State> = self.firsts.iter().map(|&first| start(0, first)).collect();
+            let (mut one, own) = (states[0], words.clone());
+            ops.push(self.op("peer", "step of one lane", move || {
+                assert_eq!(step(&own, &mut one), 0);
+            }));
+            ops.push(self.op("ours", "step of all lanes", move || {
+                assert_eq!(Library.step_all(&self.words, &mut bytes), 0);
+            }));
+            ops.push(self.op("peer", "step of all lanes", move || {
+                assert_eq!(step_all(&words, &mut states), 0);
+            }));
+        }
+    }
+}
+
+/// What callgrind counts: it collects inside this function only.
+#[cfg(rd_lib)]
+#[no_mangle]
+#[inline(never)]
+pub fn measured(call: &mut dyn FnMut()) {
+    call();
+}
+
+/// Nanoseconds of a call, of as many as fit the time, at least one.
+#[cfg(rd_lib)]
+fn timed(call: &mut dyn FnMut(), milliseconds: u128) -> u128 {
+    let begin = std::time::Instant::now();
+    let mut calls = 0;
+    loop {
+        measured(call);
+        calls += 1;
+        let passed = begin.elapsed();
+        if passed.as_millis() >= milliseconds {
+            return passed.as_nanos() / calls;
+        }
+    }
+}
+
+#[cfg(rd_lib)]
+fn main() -> std::io::Result<()> {
+    let mut arguments = std::env::args().skip(1);
+    let file = arguments.next().expect("the first argument is a file");
+    let milliseconds = arguments.next().map_or(0, |text| {
+        text.parse().expect("the second argument is a number")
+    });
+    let small = peer::generate::small(&mut peer::Rng::new(1)).encode();
+    for (_, _, mut call) in ops::Ops::new(small).all() {
+        call();
+    }
+    let ops = ops::Ops::new(std::fs::read(file)?);
+    for (whose, which, mut call) in ops.all() {
+        println!("{whose}\t{which}\t{}", timed(&mut call, milliseconds));
+    }
+    Ok(())
+}
+
+#[cfg(not(rd_lib))]
+fn main() {
+    panic!("built without RD_LIB_DIR: there is no library to measure");
+}
