@@ -78,6 +78,24 @@ uint64_t rd_check(const uint8_t *image, size_t image_len);
 uint64_t rd_build(const uint8_t *image, size_t image_len, uint32_t lane, uint8_t *words, size_t words_len);
 
 /*
+ * Builds the dispatch tables of all lanes, one after another, lanes rising:
+ * questions 1 to 24 once, then 26 of all tables together. For a load tool that
+ * wants every table: rd_build asks 1 to 24 again for each lane.
+ *
+ * image      image_len bytes, which are only read.
+ * words      words_len bytes, of which words_len / 4 words count.
+ *
+ * Gives 0 and writes the tables from the first word on, each as rd_build
+ * writes it; later bytes are left as they were. Lane 0's table begins at word
+ * 0. Where a lane's table begins at word f, its n is word f + 1, and the next
+ * lane's begins at word f + 2 + 3 * n: these are the first words for rd_start.
+ * There is a table for each row of the core table, then for each link.
+ * Gives another answer and writes nothing where a question is answered no: 26
+ * where there are fewer words than all tables take.
+ */
+uint64_t rd_build_all(const uint8_t *image, size_t image_len, uint8_t *words, size_t words_len);
+
+/*
  * A lane's state is 28 bytes, the lowest byte of each number first:
  *
  *     byte   0   8 bytes   cycle

@@ -3,12 +3,19 @@
 //!
 //! A static library made by Rust brings parts of Rust's runtime with it, and
 //! so does a binary. To keep the two apart, the library is first made one
-//! object that shows only the five functions of the C boundary.
+//! object that shows only the functions of the C boundary.
 
 use std::path::Path;
 use std::process::Command;
 
-const FUNCTIONS: [&str; 5] = ["rd_check", "rd_build", "rd_start", "rd_step", "rd_step_all"];
+const FUNCTIONS: [&str; 6] = [
+    "rd_check",
+    "rd_build",
+    "rd_build_all",
+    "rd_start",
+    "rd_step",
+    "rd_step_all",
+];
 
 fn main() {
     println!("cargo:rustc-check-cfg=cfg(rd_lib)");

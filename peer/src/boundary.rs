@@ -7,13 +7,46 @@ use crate::image::WORD;
 /// Bytes of a state.
 pub const STATE: usize = 28;
 
-/// The five functions over byte slices.
+/// The functions over byte slices.
 pub trait Boundary {
     fn check(&self, image: &[u8]) -> u64;
     fn build(&self, image: &[u8], lane: u32, words: &mut [u8]) -> u64;
     fn start(&self, cycle: u64, first: u32, state: &mut [u8]) -> u32;
     fn step(&self, words: &[u8], state: &mut [u8]) -> u32;
     fn step_all(&self, words: &[u8], states: &mut [u8]) -> u32;
+
+    /// All lanes' tables, one after another. Asks 1 to 24, then 26 of all
+    /// words together.
+    fn build_all(&self, image: &[u8], words: &mut [u8]) -> u64 {
+        let answer = self.check(image);
+        if answer != 0 {
+            return answer;
+        }
+        let tables: Vec<u8> = (0..)
+            .map_while(|lane| self.table(image, lane))
+            .flatten()
+            .collect();
+        if words.len() / WORD < tables.len() / WORD {
+            return 26;
+        }
+        words[..tables.len()].copy_from_slice(&tables);
+        0
+    }
+
+    /// A lane's table of an accepted image, as bytes, if there is such a lane.
+    fn table(&self, image: &[u8], lane: u32) -> Option<Vec<u8>> {
+        let mut words = vec![0; 64 * WORD];
+        loop {
+            match self.build(image, lane, &mut words) {
+                0 => break,
+                26 => words.resize(4 * words.len(), 0),
+                _ => return None,
+            }
+        }
+        let entries = read_words(&words[..2 * WORD])[1] as usize;
+        words.truncate((2 + 3 * entries) * WORD);
+        Some(words)
+    }
 }
 
 /// This package's own implementation.

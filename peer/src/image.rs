@@ -184,6 +184,14 @@ impl Plan {
         self.tasks[task as usize][2]
     }
 
+    /// The node by whose clock a lane runs.
+    pub fn node_of_lane(&self, lane: usize) -> u32 {
+        match lane.checked_sub(self.cores.len()) {
+            None => self.cores[lane][0],
+            Some(link) => self.links[link][0],
+        }
+    }
+
     /// The number of jobs of a task in the cycle, H/T.
     pub fn jobs(&self, task: u32) -> u32 {
         self.cycle / self.period(task)

@@ -3,6 +3,7 @@
 //! beside the product's own code; see README.md for the readings it took.
 
 mod answer;
+mod arguments;
 pub mod boundary;
 mod check;
 mod dispatch;
@@ -19,9 +20,11 @@ pub mod naive;
 mod report;
 mod rng;
 mod routes;
+pub mod simulate;
 mod table;
 
 pub use answer::Answer;
+pub use arguments::arguments;
 pub use check::check;
 pub use dispatch::{start, step, step_all, State};
 pub use histogram::Histogram;

@@ -11,6 +11,12 @@ extern "C" {
         words: *mut u8,
         words_len: usize,
     ) -> u64;
+    fn rd_build_all(
+        image: *const u8,
+        image_len: usize,
+        words: *mut u8,
+        words_len: usize,
+    ) -> u64;
     fn rd_start(cycle: u64, first: u32, state: *mut u8, state_len: usize) -> u32;
     fn rd_step(words: *const u8, words_len: usize, state: *mut u8, state_len: usize) -> u32;
     fn rd_step_all(words: *const u8, words_len: usize, states: *mut u8, states_len: usize) -> u32;
@@ -28,6 +34,11 @@ impl Boundary for Library {
     fn build(&self, image: &[u8], lane: u32, words: &mut [u8]) -> u64 {
         let (at, length) = (words.as_mut_ptr(), words.len());
         unsafe { rd_build(image.as_ptr(), image.len(), lane, at, length) }
+    }
+
+    fn build_all(&self, image: &[u8], words: &mut [u8]) -> u64 {
+        let (at, length) = (words.as_mut_ptr(), words.len());
+        unsafe { rd_build_all(image.as_ptr(), image.len(), at, length) }
     }
 
     fn start(&self, cycle: u64, first: u32, state: &mut [u8]) -> u32 {

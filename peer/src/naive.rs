@@ -63,6 +63,16 @@ pub fn build(image: &[u8], lane: u32, words: &mut [u32]) -> Answer {
     Answer::ACCEPTED
 }
 
+/// The table of a lane that there is, without a question asked. Where rows
+/// overlap, pieces are shown before windows, and lower rows before higher.
+///
+/// The image must be one that questions 1 to 9 accept.
+pub fn table_unasked(image: &[u8], lane: u32) -> Vec<u32> {
+    let plan = Image { bytes: image };
+    let table = plan.table(Number::from(lane));
+    table.iter().map(|word| *word as u32).collect()
+}
+
 struct Image<'a> {
     bytes: &'a [u8],
 }

@@ -1,35 +1,9 @@
 //! The cases of the plan paper, for this implementation and its naive twin.
 
+mod cases;
+
+use cases::{case_a, case_b};
 use peer::{build, check, naive, report, start, step, step_all, Answer, Plan, State};
-
-fn case_a() -> Plan {
-    Plan {
-        cycle: 10,
-        precision: 0,
-        cores: vec![[0, 1, 2]],
-        vcpus: vec![[0]],
-        tasks: vec![[0, 1, 10, 3, 8]],
-        windows: vec![[0, 0, 10]],
-        pieces: vec![[0, 0, 2, 4]],
-        ..Plan::default()
-    }
-}
-
-fn case_b() -> Plan {
-    Plan {
-        cycle: 20,
-        precision: 1,
-        cores: vec![[0, 1, 2], [1, 1, 2]],
-        vcpus: vec![[0], [1]],
-        tasks: vec![[0, 3, 20, 3, 20], [1, 3, 20, 3, 20]],
-        windows: vec![[0, 0, 20], [1, 0, 20]],
-        pieces: vec![[0, 0, 2, 4], [1, 0, 10, 4]],
-        links: vec![[0, 1, 1]],
-        streams: vec![[0, 1, 13, 1, 2]],
-        frames: vec![[0, 0, 0, 0, 6]],
-        buffers: vec![],
-    }
-}
 
 #[track_caller]
 fn expect(image: &[u8], number: u32, table: u32, row: u32) {

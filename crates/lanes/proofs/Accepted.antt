@@ -1,84 +1,20 @@
--- What an accepted plan gives besides the facts by name: its tables lie in the image, and rows that take up ticks end in the cycle and
--- are apart where they share a place.
-use Prim.Native.Nat.{ℕ, _+_, _*_, _-_, _≤_, _<_}
+-- What an accepted plan gives besides the facts by name: rows that take up ticks end in the cycle and are apart where they share a place.
+use Prim.Native.Nat.{ℕ, _+_, _*_, _≤_, _<_}
 use mathlib.Core.Path.{_≡_}
-use mathlib.Core.List.{List, _∷_, _++_, []}
+use mathlib.Core.List.{List}
 use native.Mathlib.Nat.{le-div-iff-mul-le}
 use native.Mathlib.Omega.{arith}
-use Rattle.plan.specs.declared.Table.{Table}
-use Rattle.plan.specs.declared.Table.the-variants.{Cores, Vcpus, Tasks, Windows, Pieces, Links, Streams, Frames, Buffers}
-use Rattle.plan.specs.Image.{tables, shape, trailerAt, tableEnd, rows, cycleTicks, piece, task, window, stream, frame}
+use Rattle.plan.specs.declared.Table.the-variants.{Tasks, Windows, Pieces, Streams, Frames}
+use Rattle.plan.specs.Image.{rows, cycleTicks, piece, task, window, stream, frame}
 use Rattle.plan.specs.Search.{Interval}
 use Rattle.plan.specs.Questions.{answerOf, accepted, jobs, streamPeriod, pieceEnd, windowEnd, frameEnd, switchTicks, charge, windowInterval, pieceInterval, frameInterval}
 use Rattle.plan.specs.Reading as R
-use Rattle.plan.specs.Reading.{Meaning, AllHold, Holds, Laid, Apart, meanings, imageMeanings, planMeanings, whole, eachTable}
-use Rattle.plan.specs.Held.{Sound}
-use Rattle.plan.proofs.Meanings.{accepted-means}
+use Rattle.plan.specs.Reading.{Apart}
+use Rattle.plan.proofs.Sounds.{accepted-sound}
 use Rattle.plan.proofs.Facts.{Facts, facts}
 use Rattle.lanes.specs.Taken.{tableFor, placeOf, fromOf, toOf}
 use Rattle.lanes.specs.declared.Occupant.{Occupant}
 use Rattle.lanes.specs.declared.Occupant.the-variants.{Piece, Window, Frame}
-
--- ---- the image
-
-left : (ps qs : List Meaning) → AllHold (ps ++ qs) → AllHold ps
-left [] qs h = tt
-left (p ∷ ps) qs h = (h .0, left ps qs (h .1))
-
-module _ (s : List ℕ) where
-  inside : (from : ℕ) (ts : List Table) → Laid s from ts → from ≤ trailerAt s
-  unfolding tableEnd
-  inside from [] h = omega arith
-  inside from (t ∷ ts) h = omega (arith, inside (tableEnd s t) ts (h .2), h .1)
-
-  -- of each table of a list
-  abbrev Each : (Table → Type 0) → List Table → Type 0
-  Each P [] = Unit {0}
-  Each P (t ∷ ts) = P t × Each P ts
-
-  abbrev Lies : Table → Type 0
-  Lies t = (rows s t ≤ shape t .most) × (tableEnd s t ≤ trailerAt s)
-
-  lies : (from : ℕ) (ts : List Table) → Laid s from ts → Each Lies ts
-  lies from [] h = tt
-  lies from (t ∷ ts) h = ((h .0, inside (tableEnd s t) ts (h .2)), lies (tableEnd s t) ts (h .2))
-
-  pick : (P : Table → Type 0) → Each P tables → (t : Table) → P t
-  unfolding tables
-  pick P h Cores = h .0
-  pick P h Vcpus = h .1 .0
-  pick P h Tasks = h .1 .1 .0
-  pick P h Windows = h .1 .1 .1 .0
-  pick P h Pieces = h .1 .1 .1 .1 .0
-  pick P h Links = h .1 .1 .1 .1 .1 .0
-  pick P h Streams = h .1 .1 .1 .1 .1 .1 .0
-  pick P h Frames = h .1 .1 .1 .1 .1 .1 .1 .0
-  pick P h Buffers = h .1 .1 .1 .1 .1 .1 .1 .1 .0
-
-  image-holds : answerOf s ≡ accepted → AllHold (imageMeanings s)
-  unfolding Holds meanings
-  image-holds e =
-      let m5 = eachTable s 5 tables (R.Names s) in let m6 = eachTable s 6 tables (R.InRange s) in let im = imageMeanings s in
-      left im m5 (left (im ++ m5) m6 (left (im ++ m5 ++ m6) (planMeanings s) (accepted-means s .0 e)))
-
-  pub sound : answerOf s ≡ accepted → Sound s
-  unfolding imageMeanings whole trailerAt
-  sound e =
-      let h = image-holds e in let f = facts s e in
-      let l = lies 0 tables (h .1 .1 .0 0 (omega arith) .1) in let c = h .1 .1 .1 .0 0 (omega arith) in
-      record {
-        inside =
-            record {
-              trailer = h .0 0 (omega arith) .0;
-              counts = λ t. pick Lies l t .0;
-              ends = λ t. omega (arith, pick Lies l t .1);
-            };
-        cycle = c .0;
-        cycle-most = c .1;
-        clocks = c .2;
-        names = f .names;
-        ranges = f .ranges;
-      }
 
 -- ---- rows that take up ticks
 
@@ -116,7 +52,7 @@ module _ (s : List ℕ) (f : Facts s) where
 
 module _ (s : List ℕ) (e : answerOf s ≡ accepted) where
   pub cycle-small : cycleTicks s ≤ 1000000
-  cycle-small = sound s e .cycle-most
+  cycle-small = accepted-sound s e .cycle-most
 
   -- a piece's end, and the tick at which its work begins
   pub piece-small : (i : ℕ) → i < rows s Pieces → piece s i .start + piece s i .length ≤ 1000000

@@ -39,7 +39,7 @@ module _ (s : List ℕ) where
   unfolding planQuestions pieceQuestions streamQuestions bufferQuestions each
   real-plan = omega arith
 
-  real : Real (questions s)
+  pub real : Real (questions s)
   unfolding questions
   real =
       let q5 = eachTable s 5 tables (names s) in let q6 = eachTable s 6 tables (inRange s) in
@@ -54,15 +54,15 @@ module _ (s : List ℕ) where
 
 -- ---- a question about the call itself
 
-asked : ℕ → Answer
+unfoldable pub asked : ℕ → Answer
 asked q = record { number = q; table = 0; row = 0 }
 
-whole-yes : (q : ℕ) (b : Bool) (qs : List Question) → b ≡ true → answerTo (whole q b ∷ qs) ≡ answerTo qs
+pub whole-yes : (q : ℕ) (b : Bool) (qs : List Question) → b ≡ true → answerTo (whole q b ∷ qs) ≡ answerTo qs
 unfolding answerTo whole firstNo
 whole-yes q true qs e = refl
 whole-yes q false qs e = absurd (mathlib.Core.Bool.true≢false (sym e))
 
-whole-no : (q : ℕ) (b : Bool) (qs : List Question) → b ≡ false → answerTo (whole q b ∷ qs) ≡ asked q
+pub whole-no : (q : ℕ) (b : Bool) (qs : List Question) → b ≡ false → answerTo (whole q b ∷ qs) ≡ asked q
 unfolding answerTo whole firstNo asked
 whole-no q true qs e = absurd (mathlib.Core.Bool.true≢false e)
 whole-no q false qs e = refl

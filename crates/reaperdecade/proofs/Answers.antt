@@ -15,6 +15,7 @@ use Rattle.plan.specs.Search.{firstNo}
 use Rattle.plan.specs.Questions.{Question, whole, each, eachTable, names, inRange, imageQuestions, pieceQuestions, streamQuestions, bufferQuestions, planQuestions, questions, answerTo, answerOf}
 use Rattle.plan.specs.Dispatch.{buildAnswer}
 use Rattle.plan.specs.Boundary.{answerNumber}
+use Rattle.writing.specs.AllTables.{allAnswer}
 
 -- ---- number and table are small
 
@@ -98,6 +99,10 @@ module _ (s : List ℕ) where
   pub build-small : (lane : ℕ) (words : List ℕ) → Small (buildAnswer s lane words)
   unfolding buildAnswer whole
   build-small lane words = narrow-answer _ (narrow-append (questions s) _ (questions-narrow s) (omega arith))
+
+  pub all-small : (b : List ℕ) → Small (allAnswer s b)
+  unfolding allAnswer whole
+  all-small b = narrow-answer _ (narrow-append (questions s) _ (questions-narrow s) (omega arith))
 
 -- ---- one number
 

@@ -1,172 +1,36 @@
 -- A load tool's calls are a run: what rd_build and rd_start leave meets the premises of demand 3, so what it says of runs holds of them.
-use Prim.Native.Nat.{ℕ, zero, suc, _+_, _-_, _*_, _/_, _%_, _^_, _≤_, _<_, min}
+use Prim.Native.Nat.{ℕ, zero, suc, _+_, _-_, _*_, _^_, _≤_, _<_, min}
 use mathlib.Core.Path.{_≡_, refl, sym, ap, subst, _∙_}
-use mathlib.Core.Bool.{Bool, true, false, cond}
 use mathlib.Core.List.{List, _∷_, _++_, [], flatMap}
 use native.Mathlib.Nat.{not-suc-le-zero, le-of-suc-le-suc}
 use native.Mathlib.Omega.{arith}
-use native.Mathlib.Decide.{decLt}
-use lib.Dec.{ltb}
-use lib.ListN.{length, getD, take, drop, length-append, length-take, length-drop, take-append-drop, List·getD-append, List·getD-eq-default}
-use lib.Seq.{getD-append-add, getD-take, getD-drop, drop-drop, take-add, take-all, ext-getD}
-use Rattle.plan.specs.declared.Table.the-variants.{Cores, Windows, Pieces, Frames}
-use Rattle.plan.specs.declared.Found.{Found}
-use Rattle.plan.specs.declared.Found.the-variants.{At, Nothing}
-use Rattle.plan.specs.Image.{wordAt, shape, rows, cycleTicks, precision, piece, window}
-use Rattle.plan.specs.Search.{count}
-use Rattle.plan.specs.Questions.{answerOf, accepted, charge, switchTicks}
-use Rattle.plan.specs.Held.{Sound}
-use Rattle.plan.specs.Dispatch.{Shown, show, lanes, pieceAt, windowAt, frameAt, onCore, onLink, shownAt, begins, entries, entryCount, tableOf, startState}
+use lib.ListN.{length, getD, take, drop, length-take, length-drop, take-append-drop}
+use lib.Seq.{drop-drop, take-append-seam}
+use Rattle.plan.specs.Questions.{answerOf, accepted}
+use Rattle.plan.specs.Dispatch.{lanes, tableOf, startState}
 use Rattle.plan.specs.Boundary.{bytesOf, wordsOf, stateOf, stateBytes, answerNumber, checkNumber}
 use Rattle.plan.specs.Runs.{Call, allLanes, oneLane, Named, Ready}
 use Rattle.plan.specs.declared.Answer.{Answer}
 use Rattle.plan.specs.declared.LaneState.{LaneState}
-use Rattle.plan.proofs.Shows.{first-at}
-use Rattle.plan.proofs.Sounds.{accepted-sound}
-use Rattle.plan.proofs.Tests.{with-row, without-row, no-count}
 use Rattle.plan.proofs.Demand.{demand-3}
+use Rattle.writing.proofs.Bytes.{row-length}
+use Rattle.writing.proofs.Words.{Fit, words-row, words-drop}
+use Rattle.writing.proofs.Tables.{table-length}
+use Rattle.writing.proofs.Fitting.{table-fits}
 use Rattle.reaperdecade.specs.Loaded.{Loaded, rowBytes, givesBytes, afterBytes, BytesRun, Demand3ThroughC}
-use Rattle.writing.proofs.Words.{words-length, words-at}
-use Rattle.writing.proofs.Bytes.{bytes-length, row-length}
-use Rattle.reaperdecade.proofs.States.{InWidth, AllInWidth, low, low-word, round-trip}
+use Rattle.reaperdecade.proofs.States.{InWidth, AllInWidth, round-trip}
 use Rattle.reaperdecade.proofs.Runs.{Among, AllAmong, calls-of-bytes}
-
--- ---- the words of a lane's table fit 32 bits
-
-abbrev Narrow : List ℕ → Type 0
-Narrow xs = (i : ℕ) → getD xs i 0 < 2 ^ 32
-
-narrow-append : (xs ys : List ℕ) → Narrow xs → Narrow ys → Narrow (xs ++ ys)
-narrow-append xs ys a b i = go (decLt i (length xs))
-  where
-    go : Dec (i < length xs) → getD (xs ++ ys) i 0 < 2 ^ 32
-    go (yes l) = rw (List·getD-append xs ys 0 i l) (a i)
-    go (no l) =
-        let e : i ≡ length xs + (i - length xs) = omega arith in
-        subst (λ (k : ℕ). getD (xs ++ ys) k 0 < 2 ^ 32) (sym e) (rw (getD-append-add xs ys (i - length xs) 0) (b (i - length xs)))
-
-narrow-none : Narrow []
-narrow-none i = omega arith
-
-narrow-three : (x y z : ℕ) → x < 2 ^ 32 → y < 2 ^ 32 → z < 2 ^ 32 → Narrow (x ∷ y ∷ z ∷ [])
-narrow-three x y z a b c zero = a
-narrow-three x y z a b c (suc zero) = b
-narrow-three x y z a b c (suc (suc zero)) = c
-narrow-three x y z a b c (suc (suc (suc i))) = omega arith
-
-few : (n : ℕ) (test : ℕ → Bool) → count n test ≤ n
-few zero test = omega (arith, no-count test)
-few (suc n) test = go (test n) refl (few n test)
-  where
-    go : (b : Bool) → test n ≡ b → count n test ≤ n → count (suc n) test ≤ suc n
-    go true e k = omega (arith, with-row test n e)
-    go false e k = omega (arith, without-row test n e)
-
-module _ (s : List ℕ) (ok : Sound s) where
-  abbrev Fits : Shown → Type 0
-  Fits x = (x .kind < 2 ^ 32) × (x .row < 2 ^ 32)
-
-  fits-show : (k r : ℕ) → k < 6 → r < 2049 → Fits (show k r)
-  unfolding show
-  fits-show k r a b = (omega arith, omega arith)
-
-  either : (t : Bool) (k m r : ℕ) → k < 6 → m < 6 → r < 2049 → Fits (cond t (show k r) (show m r))
-  either true k m r a b c = fits-show k r a c
-  either false k m r a b c = fits-show m r b c
-
-  on-core : (c t : ℕ) → Fits (onCore s c t)
-  unfolding pieceAt windowAt shape onCore
-  on-core c t = go (pieceAt s c t) refl
-    where
-      out : (d : Found) → windowAt s c t ≡ d → pieceAt s c t ≡ Nothing → Fits (onCore s c t)
-      out (At w) q e =
-          rw (e, q, onCore) (either (ltb t (window s w .start + charge s w)) 1 2 w (omega arith) (omega arith)
-          (omega (arith, first-at _ (rows s Windows) w q .0, ok .inside .counts Windows)))
-      out Nothing q e = rw (e, q, onCore) (fits-show 0 0 (omega arith) (omega arith))
-
-      go : (d : Found) → pieceAt s c t ≡ d → Fits (onCore s c t)
-      go (At i) e =
-          rw (e, onCore) (either (ltb t (piece s i .start + switchTicks s (piece s i .task))) 3 4 i (omega arith) (omega arith)
-          (omega (arith, first-at _ (rows s Pieces) i e .0, ok .inside .counts Pieces)))
-      go Nothing e = out (windowAt s c t) refl e
-
-  on-link : (l t : ℕ) → Fits (onLink s l t)
-  unfolding frameAt shape onLink
-  on-link l t = go (frameAt s l t) refl
-    where
-      go : (d : Found) → frameAt s l t ≡ d → Fits (onLink s l t)
-      go (At f) e = rw (e, onLink) (fits-show 5 f (omega arith) (omega (arith, first-at _ (rows s Frames) f e .0, ok .inside .counts Frames)))
-      go Nothing e = rw (e, onLink) (fits-show 0 0 (omega arith) (omega arith))
-
-  shown-fits : (lane t : ℕ) → Fits (shownAt s lane t)
-  unfolding shownAt
-  shown-fits lane t = go (ltb lane (rows s Cores))
-    where
-      go : (b : Bool) → Fits (cond b (onCore s lane t) (onLink s (lane - rows s Cores) t))
-      go true = on-core lane t
-      go false = on-link (lane - rows s Cores) t
-
-  entries-narrow : (lane n : ℕ) → n ≤ cycleTicks s → Narrow (entries s lane n)
-  unfolding entries
-  entries-narrow lane zero h = narrow-none
-  entries-narrow lane (suc t) h = narrow-append (entries s lane t) _ (entries-narrow lane t (omega arith)) (go (begins s lane t))
-    where
-      go : (b : Bool) → Narrow (cond b (t ∷ shownAt s lane t .kind ∷ shownAt s lane t .row ∷ []) [])
-      go true = let f = shown-fits lane t in narrow-three t _ _ (omega (arith, ok .cycle-most)) (f .0) (f .1)
-      go false = narrow-none
-
-  table-narrow : (lane : ℕ) → Narrow (tableOf s lane)
-  unfolding tableOf entryCount
-  table-narrow lane zero = omega (arith, ok .cycle-most)
-  table-narrow lane (suc zero) = omega (arith, ok .cycle-most, few (cycleTicks s) (begins s lane))
-  table-narrow lane (suc (suc i)) = entries-narrow lane (cycleTicks s) (omega arith) i
 
 -- ---- words that bytes stand for
 
-flat-at : (t : List ℕ) (i j : ℕ) → i < length t → j < 4 → getD (flatMap (bytesOf 4) t) (4 * i + j) 0 ≡ getD (bytesOf 4 (getD t i 0)) j 0
-unfolding flatMap
-flat-at [] i j h k = absurd (not-suc-le-zero h)
-flat-at (x ∷ xs) zero j h k =
-    let e : 4 * 0 + j ≡ j = omega arith in
-    ap (λ (n : ℕ). getD (bytesOf 4 x ++ flatMap (bytesOf 4) xs) n 0) e
-    ∙ List·getD-append (bytesOf 4 x) (flatMap (bytesOf 4) xs) 0 j (omega (arith, bytes-length 4 x))
-flat-at (x ∷ xs) (suc i) j h k =
-    let e : 4 * suc i + j ≡ length (bytesOf 4 x) + (4 * i + j) = omega (arith, bytes-length 4 x) in
-    ap (λ (n : ℕ). getD (bytesOf 4 x ++ flatMap (bytesOf 4) xs) n 0) e
-    ∙ getD-append-add (bytesOf 4 x) (flatMap (bytesOf 4) xs) (4 * i + j) 0
-    ∙ flat-at xs i j (le-of-suc-le-suc h) k
-
-module _ (ws t : List ℕ) (w : ℕ) (held : take (4 * length t) (drop (4 * w) ws) ≡ flatMap (bytesOf 4) t) where
-  room : min (4 * length t) (length ws - 4 * w) ≡ 4 * length t
-  room = rw (← length-drop (4 * w) ws, ← length-take) (ap length held ∙ row-length t)
-
-  byte : (i j : ℕ) → i < length t → j < 4 → getD ws (4 * (w + i) + j) 0 ≡ getD (bytesOf 4 (getD t i 0)) j 0
-  byte i j h k =
-      let e : 4 * (w + i) + j ≡ 4 * w + (4 * i + j) = omega arith in
-      ap (λ (n : ℕ). getD ws n 0) e
-      ∙ sym (getD-drop (4 * w) ws (4 * i + j) 0)
-      ∙ sym (getD-take (4 * length t) (drop (4 * w) ws) (4 * i + j) 0 (omega arith))
-      ∙ ap (λ (b : List ℕ). getD b (4 * i + j) 0) held
-      ∙ flat-at t i j h k
-
-  word-is : (i : ℕ) → i < length t → getD t i 0 < 2 ^ 32 → wordAt ws (4 * (w + i)) ≡ getD t i 0
-  unfolding wordAt bytesOf
-  word-is i h n =
-      let z : 4 * (w + i) ≡ 4 * (w + i) + 0 = omega arith in
-      let a = ap (λ (k : ℕ). getD ws k 0) z ∙ byte i 0 h (omega arith) in
-      (rw (a, byte i 1 h (omega arith), byte i 2 h (omega arith), byte i 3 h (omega arith)) refl) ∙ low-word (getD t i 0) n
-
-  words-held : Narrow t → take (length t) (drop w (wordsOf ws)) ≡ t
-  words-held n =
-      ext-getD 0 (take (length t) (drop w (wordsOf ws))) t long
-      (λ i h. let l : i < length t = omega (arith, long) in
-      getD-take (length t) (drop w (wordsOf ws)) i 0 l
-      ∙ getD-drop w (wordsOf ws) i 0
-      ∙ words-at ws (w + i) (omega (arith, room))
-      ∙ word-is i l (n i))
-    where
-      long : length (take (length t) (drop w (wordsOf ws))) ≡ length t
-      long = length-take (length t) (drop w (wordsOf ws)) ∙ (rw (length-drop w (wordsOf ws), words-length ws) (omega (arith, room)))
+-- a table's bytes from byte 4 w on are the table from word w on
+words-held : (ws t : List ℕ) (w : ℕ) → take (4 * length t) (drop (4 * w) ws) ≡ flatMap (bytesOf 4) t → 1 ≤ length t → Fit t → take (length t) (drop w (wordsOf ws)) ≡ t
+words-held ws t w held l n =
+    let room : min (4 * length t) (length ws - 4 * w) ≡ 4 * length t = rw (← length-drop (4 * w) ws, ← length-take) (ap length held ∙ row-length t) in
+    let rest : List ℕ = drop (4 * length t) (drop (4 * w) ws) in
+    let e : drop (4 * w) ws ≡ flatMap (bytesOf 4) t ++ rest = sym (take-append-drop (4 * length t) (drop (4 * w) ws)) ∙ ap (λ (b : List ℕ). b ++ rest) held in
+    ap (take (length t)) (sym (words-drop w ws (omega (arith, room))) ∙ ap wordsOf e ∙ words-row t rest n)
+    ∙ take-append-seam t (wordsOf rest)
 
 -- ---- states that bytes stand for
 
@@ -270,7 +134,7 @@ module _ (s ws row : List ℕ) (c : ℕ) (g : Loaded s ws row c) where
         starts = λ l h. let p = g .lane l h in (
           p .0,
           state-at (lanes s) l row h ∙ is-start c (g .in-calendar) (lanes s) l row starts h,
-          words-held ws (tableOf s l) (p .0) (p .3) (table-narrow s (accepted-sound s plan) l),
+          words-held ws (tableOf s l) (p .0) (p .3) (omega (arith, table-length s l)) (table-fits s plan l),
         );
       }
 

@@ -30,10 +30,10 @@ pub record InWidth (st : LaneState) : Type 0 where
   pub row : st .row < 2 ^ 32
 
 -- four bytes of a number, read as a word
-abbrev pub low : ℕ → ℕ
+abbrev low : ℕ → ℕ
 low x = x % 256 + 256 * (x / 256 % 256) + 65536 * (x / 256 / 256 % 256) + 16777216 * (x / 256 / 256 / 256 % 256)
 
-pub low-word : (x : ℕ) → x < 2 ^ 32 → low x ≡ x
+low-word : (x : ℕ) → x < 2 ^ 32 → low x ≡ x
 low-word x h = omega arith
 
 low-high : (x : ℕ) → low x + 2 ^ 32 * (x / 256 / 256 / 256 / 256) ≡ x

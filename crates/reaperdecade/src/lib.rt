@@ -6,6 +6,7 @@ ghost use Prim.Native.Nat.{_<_, _≤_};
 ghost use lib.ListN.{length, getD, take, drop};
 ghost use Rattle.plan.specs.Boundary.{answerNumber, checkNumber, buildNumber, buildBytes, wordsOf, stateOf, stateBytes, startNumber, startBytes, stepNumber, stepBytes, stepAllNumber, stepAllBytes};
 ghost use Rattle.steps.specs.Lookups.{lookup};
+ghost use Rattle.writing.specs.AllTables.{allNumber, allBytes};
 ghost use Rattle.reaperdecade.specs.Entries.{hasEntry};
 use plan::Answer;
 use plan::LaneState;
@@ -234,4 +235,13 @@ pub extern "C" fn rd_build(image: &[u8], lane: u32, words: &mut [u8]) -> u64
     ensures { λ r. ⌜ (r ≡ buildNumber (now (image .entry)) lane (now (words .entry))) × (now (words .exit) ≡ buildBytes (now (image .entry)) lane (now (words .entry))) ⌝ }
 {
     packed(writing::build(image, lane, words))
+}
+
+// Builds the tables of all lanes one after another, lanes rising: asks 1 to 24 once, then 26 of all words together. Later bytes, and
+// all bytes after a refusal, stay as they are.
+#[no_mangle]
+pub extern "C" fn rd_build_all(image: &[u8], words: &mut [u8]) -> u64
+    ensures { λ r. ⌜ (r ≡ allNumber (now (image .entry)) (now (words .entry))) × (now (words .exit) ≡ allBytes (now (image .entry)) (now (words .entry))) ⌝ }
+{
+    packed(writing::build_all(image, words))
 }

@@ -1,4 +1,7 @@
-pub mod Words
 pub mod Bytes
+pub mod Words
 pub mod Storing
 pub mod Tables
+pub mod AllTables
+pub mod Fitting
+pub mod Reading

@@ -10,6 +10,7 @@ ghost use Rattle.plan.specs.Questions.{answerOf, accepted};
 ghost use Rattle.plan.specs.Dispatch.{lanes, entryCount, entries, tableOf};
 ghost use Rattle.plan.specs.Boundary.{bytesOf};
 ghost use Rattle.writing.specs.Stored.{stored, Built};
+ghost use Rattle.writing.specs.AllTables.{allTables, BuiltAll};
 use building::lane_count;
 use lanes::count_entries;
 use lanes::start;
@@ -107,4 +108,54 @@ pub fn build(image: &[u8], lane: u32, bytes: &mut [u8]) -> Answer
         };
     }
     fill(image, lane, bytes)
+}
+
+// How many words the tables of all lanes take.
+fn words_of_all(image: &[u8]) -> usize
+    requires { ⌜ answerOf (now image) ≡ accepted ⌝ }
+    ensures { λ r. ⌜ r ≡ length (allTables (now (image .entry))) ⌝ }
+{
+    let lanes = lane_count(image);
+    let mut words: usize = 0;
+    let mut lane: u32 = 0;
+    while lane < lanes {
+        words += 2 + 3 * count_entries(image, lane) as usize;
+        lane += 1;
+    }
+    words
+}
+
+// The tables of all lanes, one after another from byte 0 on.
+fn write_all(image: &[u8], bytes: &mut [u8])
+    requires { ⌜ (answerOf (now image) ≡ accepted) × (4 * length (allTables (now image)) ≤ length (now bytes)) ⌝ }
+    ensures { λ _. ⌜ now (bytes .exit) ≡ stored (now (bytes .entry)) 0 (allTables (now (image .entry))) ⌝ }
+{
+    let lanes = lane_count(image);
+    let mut at: usize = 0;
+    let mut lane: u32 = 0;
+    while lane < lanes {
+        let count = write_table(image, lane, bytes, at);
+        at += 8 + 12 * count as usize;
+        lane += 1;
+    }
+}
+
+// Builds the tables of all lanes, lanes rising: asks 1 to 24 once, then 26 of all words together. Later bytes, and all bytes after a
+// refusal, stay as they are.
+pub fn build_all(image: &[u8], bytes: &mut [u8]) -> Answer
+    ensures { λ r. ⌜ BuiltAll (now (image .entry)) (now (bytes .entry)) r (now (bytes .exit)) ⌝ }
+{
+    let checked = questions::check(image);
+    if checked.number != 0 {
+        return checked;
+    }
+    if bytes.len() / 4 < words_of_all(image) {
+        return Answer {
+            number: 26,
+            table: 0,
+            row: 0,
+        };
+    }
+    write_all(image, bytes);
+    plan::accepted()
 }

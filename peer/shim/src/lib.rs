@@ -30,6 +30,19 @@ pub unsafe extern "C" fn rd_build(
 }
 
 /// # Safety
+/// The pointers lead to so many bytes, apart from each other.
+#[no_mangle]
+pub unsafe extern "C" fn rd_build_all(
+    image: *const u8,
+    image_len: usize,
+    words: *mut u8,
+    words_len: usize,
+) -> u64 {
+    let image = from_raw_parts(image, image_len);
+    Peer.build_all(image, from_raw_parts_mut(words, words_len))
+}
+
+/// # Safety
 /// The pointer leads to so many bytes.
 #[no_mangle]
 pub unsafe extern "C" fn rd_start(cycle: u64, first: u32, state: *mut u8, state_len: usize) -> u32 {

@@ -11,15 +11,11 @@ fn main() -> std::process::ExitCode {
     use peer::harness::{run, Settings};
     use peer::library::Library;
 
-    let mut arguments = std::env::args().skip(1).map(|text| text.parse::<u64>());
-    let mut next = |default: u64| match arguments.next() {
-        None => default,
-        Some(number) => number.expect("arguments are numbers"),
-    };
+    let [cases, seed, first_case] = peer::arguments([20_000, 1, 0]);
     let settings = Settings {
-        cases: next(20_000),
-        seed: next(1),
-        first_case: next(0),
+        cases,
+        seed,
+        first_case,
         large: true,
         trace: std::env::var_os("PEER_TRACE").is_some(),
     };

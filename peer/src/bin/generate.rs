@@ -19,6 +19,8 @@ fn image(shape: &str, rng: &mut Rng) -> Vec<u8> {
     let plan = match shape {
         "bare" => generate::bare(rng),
         "units" => generate::unit_periods(rng),
+        "tiny" => generate::tiny(rng),
+        "shared" => generate::shared_buffer(rng),
         "small" => generate::small(rng),
         "medium" => generate::medium(rng),
         "rich" => generate::rich(rng),
@@ -26,7 +28,7 @@ fn image(shape: &str, rng: &mut Rng) -> Vec<u8> {
         "busy" => generate::busy_core(rng),
         "full" => generate::full(rng),
         "mutant" => return mutate::mutant(rng),
-        _ => panic!("shapes: bare units small medium rich large busy full mutant"),
+        _ => panic!("shapes: bare units tiny shared small medium rich large busy full mutant"),
     };
     plan.encode()
 }

@@ -5,12 +5,7 @@
 use peer::{check, mutate::mutant, Histogram, Rng};
 
 fn main() {
-    let mut arguments = std::env::args().skip(1).map(|text| text.parse::<u64>());
-    let mut next = |default: u64| match arguments.next() {
-        None => default,
-        Some(number) => number.expect("arguments are numbers"),
-    };
-    let (mutants, seed) = (next(20_000), next(1));
+    let [mutants, seed] = peer::arguments([20_000, 1]);
     let mut refusals = Histogram::default();
     for case in 0..mutants {
         let mut rng = Rng::for_case(seed, case);

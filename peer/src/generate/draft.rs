@@ -14,6 +14,8 @@ pub struct Draft {
     pub plan: Plan,
     /// At most so many of 100 pieces of a job begin a cluster of their own.
     pub spread: usize,
+    /// Whether buffers share the lowest numbers wherever their holds allow.
+    pub few_numbers: bool,
     core_lines: Vec<Timeline>,
     link_lines: Vec<Timeline>,
     holds: Vec<Hold>,
@@ -86,6 +88,7 @@ impl Draft {
                 ..Plan::default()
             },
             spread: 50,
+            few_numbers: false,
             core_lines: Vec::new(),
             link_lines: Vec::new(),
             holds: Vec::new(),
@@ -369,7 +372,7 @@ impl Draft {
     fn set_number(&mut self, row: u32, pairs: Vec<(Span, Span)>, rng: &mut Rng) -> Option<()> {
         let node = self.plan.node_of_task(self.plan.buffers[row as usize][1]);
         let mut numbers: Vec<u32> = (0..64).collect();
-        if rng.chance(50) {
+        if !self.few_numbers && rng.chance(50) {
             rng.shuffle(&mut numbers);
         }
         let holds = |number: u32| {

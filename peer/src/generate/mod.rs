@@ -11,5 +11,6 @@ mod timeline;
 mod windows;
 
 pub use shapes::{
-    accepted, bare, busy_core, full, large, medium, rich, small, small_rich, unit_periods,
+    accepted, bare, busy_core, full, large, medium, rich, shared_buffer, small, small_rich, tiny,
+    unit_periods,
 };

@@ -13,7 +13,23 @@ struct Size {
     links: u32,
     transactions: usize,
     jobs: u32,
+    /// The numbers of hops to choose from.
+    hops: &'static [u32],
 }
+
+/// The numbers of hops that most sizes choose from.
+const ANY_HOPS: &[u32] = &[1, 1, 2, 2, 3, 4, 8];
+
+const TINY: Size = Size {
+    cycles: &[10, 12, 16, 18, 20, 24, 30, 36, 40, 48, 50, 60, 60],
+    cores: 5,
+    nodes: 4,
+    vcpus: 7,
+    links: 8,
+    transactions: 6,
+    jobs: 4,
+    hops: &[1, 2, 2, 3],
+};
 
 const SMALL: Size = Size {
     cycles: &[
@@ -25,6 +41,7 @@ const SMALL: Size = Size {
     links: 5,
     transactions: 4,
     jobs: 6,
+    hops: ANY_HOPS,
 };
 
 const MEDIUM: Size = Size {
@@ -35,6 +52,7 @@ const MEDIUM: Size = Size {
     links: 12,
     transactions: 8,
     jobs: 12,
+    hops: ANY_HOPS,
 };
 
 const LARGE: Size = Size {
@@ -47,6 +65,7 @@ const LARGE: Size = Size {
     links: 64,
     transactions: 40,
     jobs: 40,
+    hops: ANY_HOPS,
 };
 
 /// An accepted plan of any shape but the full ones.
@@ -87,20 +106,44 @@ pub fn small_rich(rng: &mut Rng) -> Plan {
     with_all_tables(&SMALL, rng)
 }
 
-fn with_all_tables(size: &Size, rng: &mut Rng) -> Plan {
+/// A plan with rows in every table, for cycles of at most 60 ticks: messages
+/// of one to three hops, P up to 3, limits often exactly met, and buffers
+/// that rows share wherever their holds let them.
+pub fn tiny(rng: &mut Rng) -> Plan {
     loop {
-        let mut draft = foundation(size, 2, rng);
-        let turns = rng.below(size.transactions) + 2;
-        for _ in 0..turns {
-            let transaction = transaction(&draft, size, rng);
-            draft.add(&transaction, rng);
+        let mut draft = foundation(&TINY, 2, rng);
+        draft.plan.precision = rng.pick(&[0, 1, 1, 2, 2, 3, 3]);
+        draft.few_numbers = true;
+        for _ in 0..rng.below(4) {
+            let exchange = exchange(&draft, rng);
+            draft.add(&exchange, rng);
         }
-        if !draft.plan.streams.is_empty() && !draft.plan.buffers.is_empty() {
-            if let Some(plan) = draft.finish(None, rng) {
-                return plan;
-            }
+        if let Some(plan) = filled(draft, &TINY, rng) {
+            return plan;
         }
     }
+}
+
+fn with_all_tables(size: &Size, rng: &mut Rng) -> Plan {
+    loop {
+        let draft = foundation(size, 2, rng);
+        if let Some(plan) = filled(draft, size, rng) {
+            return plan;
+        }
+    }
+}
+
+/// The draft with transactions, where a stream and a buffer are among them.
+fn filled(mut draft: Draft, size: &Size, rng: &mut Rng) -> Option<Plan> {
+    let turns = rng.below(size.transactions) + 2;
+    for _ in 0..turns {
+        let transaction = transaction(&draft, size, rng);
+        draft.add(&transaction, rng);
+    }
+    if draft.plan.streams.is_empty() || draft.plan.buffers.is_empty() {
+        return None;
+    }
+    draft.finish(None, rng)
 }
 
 /// Cores, perhaps links, and all other tables empty.
@@ -190,6 +233,45 @@ fn next_task(plan: &Plan, vcpu: u32, rng: &mut Rng) -> u32 {
         Some(&task) => task,
         None => rng.pick(&tasks),
     }
+}
+
+/// One buffer that several rows share on one node, for cycles of at most 60
+/// ticks: the holds of a period follow each other, often at once, and their
+/// tasks run on any of the node's cores.
+pub fn shared_buffer(rng: &mut Rng) -> Plan {
+    let cores = rng.within(2..=3);
+    let [d, v, pause] = [2, 2, 2].map(|most| rng.within(0..=most));
+    let rows = rng.within(2..=4);
+    let mut plan = Plan {
+        cores: vec![[rng.within(0..=15), d, v]; cores as usize],
+        vcpus: (0..cores).map(|core| [core]).collect(),
+        ..Plan::default()
+    };
+    let mut now = v;
+    for row in 0..rows {
+        plan.buffers.push([7, 2 * row, 2 * row + 1]);
+        for task in [2 * row, 2 * row + 1] {
+            let work = rng.within(1..=2);
+            let vcpu = rng.within(0..=cores - 1);
+            plan.tasks.push([vcpu, 0, 0, work, 0]);
+            now += rng.within(0..=pause);
+            plan.pieces.push([task, 0, now, d + work]);
+            now += d + work;
+        }
+    }
+    let period = now + rng.within(0..=pause);
+    let jobs = rng.within(1..=(60 / period).clamp(1, 3));
+    plan.cycle = period * jobs;
+    plan.windows = (0..cores).map(|vcpu| [vcpu, 0, plan.cycle]).collect();
+    for task in &mut plan.tasks {
+        (task[2], task[4]) = (period, period);
+    }
+    let first_jobs = plan.pieces.clone();
+    for k in 1..jobs {
+        let of_job = |[task, _, start, length]: [u32; 4]| [task, k, k * period + start, length];
+        plan.pieces.extend(first_jobs.iter().copied().map(of_job));
+    }
+    shuffled(plan, rng)
 }
 
 /// A plan with every table at its highest row count.
@@ -347,13 +429,42 @@ fn few(most: u32, rng: &mut Rng) -> u32 {
     }
 }
 
-fn transaction(draft: &Draft, size: &Size, rng: &mut Rng) -> Transaction {
-    let cycle = draft.plan.cycle;
-    let fewer_jobs = rng.within(1..=size.jobs);
-    let most_jobs = rng.pick(&[size.jobs, size.jobs, fewer_jobs]);
+/// A writer and its reader on one node, both done soon.
+fn exchange(draft: &Draft, rng: &mut Rng) -> Transaction {
+    let vcpus = 0..draft.plan.vcpus.len() as u32;
+    let writer = rng.pick(&vcpus.clone().collect::<Vec<u32>>());
+    let is_near = |vcpu: &u32| draft.node_of_vcpu(*vcpu) == draft.node_of_vcpu(writer);
+    let near: Vec<u32> = vcpus.filter(is_near).collect();
+    let task = |vcpu: u32, rng: &mut Rng| NewTask {
+        vcpu,
+        budget: rng.within(1..=2),
+        least_pieces: 1,
+        most_pieces: 1,
+        haste: Haste::Early,
+    };
+    Transaction {
+        period: any_period(draft.plan.cycle, TINY.jobs, rng),
+        tasks: vec![task(writer, rng), task(rng.pick(&near), rng)],
+        flows: vec![Flow {
+            from: 0,
+            to: 1,
+            hops: 1,
+            wire: 1,
+        }],
+    }
+}
+
+/// A period with at most so many jobs in the cycle.
+fn any_period(cycle: u32, most_jobs: u32, rng: &mut Rng) -> u32 {
     let divides = |jobs: &u32| cycle.is_multiple_of(*jobs);
     let jobs: Vec<u32> = (1..=most_jobs).filter(divides).collect();
-    let period = cycle / rng.pick(&jobs);
+    cycle / rng.pick(&jobs)
+}
+
+fn transaction(draft: &Draft, size: &Size, rng: &mut Rng) -> Transaction {
+    let fewer_jobs = rng.within(1..=size.jobs);
+    let most_jobs = rng.pick(&[size.jobs, size.jobs, fewer_jobs]);
+    let period = any_period(draft.plan.cycle, most_jobs, rng);
     let count = rng.within(1..=4);
     let vcpus = draft.plan.vcpus.len() as u32;
     let task = |_| NewTask {
@@ -369,7 +480,7 @@ fn transaction(draft: &Draft, size: &Size, rng: &mut Rng) -> Transaction {
         tasks[0].haste = Haste::Early;
         tasks[count as usize - 1].haste = Haste::Late;
     }
-    let flows = flows(draft, period, &tasks, rng);
+    let flows = flows(draft, size, period, &tasks, rng);
     Transaction {
         period,
         tasks,
@@ -378,7 +489,7 @@ fn transaction(draft: &Draft, size: &Size, rng: &mut Rng) -> Transaction {
 }
 
 /// Some flows between tasks, each over as many hops as the links allow.
-fn flows(draft: &Draft, period: u32, tasks: &[NewTask], rng: &mut Rng) -> Vec<Flow> {
+fn flows(draft: &Draft, size: &Size, period: u32, tasks: &[NewTask], rng: &mut Rng) -> Vec<Flow> {
     let mut flows = Vec::new();
     for to in 1..tasks.len() {
         while rng.chance(65) {
@@ -387,7 +498,7 @@ fn flows(draft: &Draft, period: u32, tasks: &[NewTask], rng: &mut Rng) -> Vec<Fl
             let [start, end] = ends.map(|vcpu| draft.node_of_vcpu(vcpu));
             let near = start == end;
             let leads = |hops: &u32| near || draft.walk(start, end, *hops, rng).is_some();
-            let lengths: Vec<u32> = [1, 1, 2, 2, 3, 4, 8].into_iter().filter(leads).collect();
+            let lengths: Vec<u32> = size.hops.iter().copied().filter(leads).collect();
             if let Some(hops) = rng.pick_any(&lengths) {
                 flows.push(Flow {
                     from,

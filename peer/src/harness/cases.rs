@@ -91,8 +91,20 @@ fn random_bytes(rng: &mut Rng) -> Vec<u8> {
     image
 }
 
-/// Builds every lane with too few words, just enough and too many, and some
-/// lanes that are none.
+/// Bytes that are too few for so many words, just enough, and too many.
+fn around(words: usize, rng: &mut Rng) -> [usize; 3] {
+    let needed = words * WORD;
+    let too_few = if rng.chance(80) {
+        needed - 1 - rng.below(WORD)
+    } else {
+        rng.below(needed)
+    };
+    let just_enough = needed + rng.below(WORD);
+    [too_few, just_enough, needed + WORD + rng.below(100)]
+}
+
+/// Builds every lane, and all of them, with too few words, just enough and too
+/// many, and some lanes that are none.
 fn build_all(
     pair: &mut Pair,
     image: &[u8],
@@ -100,17 +112,12 @@ fn build_all(
     rng: &mut Rng,
 ) -> Result<(), Difference> {
     for (lane, table) in (0..).zip(tables) {
-        let needed = table.len() * WORD;
-        let too_few = if rng.chance(80) {
-            needed - 1 - rng.below(WORD)
-        } else {
-            rng.below(needed)
-        };
-        let just_enough = needed + rng.below(WORD);
-        let too_many = needed + WORD + rng.below(100);
-        for length in [too_few, just_enough, too_many] {
+        for length in around(table.len(), rng) {
             pair.build(image, lane, &mut Lent::noise(length, rng))?;
         }
+    }
+    for length in around(tables.iter().map(Vec::len).sum(), rng) {
+        pair.build_all(image, &mut Lent::noise(length, rng))?;
     }
     let count = tables.len() as u32;
     for lane in [count, count + rng.within(1..=9), u32::MAX, rng.word()] {
@@ -126,6 +133,8 @@ fn build_refused(pair: &mut Pair, image: &[u8], rng: &mut Rng) -> Result<(), Dif
         let length = rng.below(800);
         pair.build(image, lane, &mut Lent::noise(length, rng))?;
     }
+    let length = rng.below(800);
+    pair.build_all(image, &mut Lent::noise(length, rng))?;
     Ok(())
 }
 

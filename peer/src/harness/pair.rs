@@ -107,6 +107,24 @@ impl<'a> Pair<'a> {
         })
     }
 
+    /// Builds all lanes into lent bytes, which then hold what both wrote.
+    pub fn build_all(&mut self, image: &[u8], words: &mut Lent) -> Result<u64, Difference> {
+        self.calls.build += 1;
+        let mut other = words.clone();
+        let ours = self.ours.build_all(image, words.part_mut());
+        let theirs = self.theirs.build_all(image, other.part_mut());
+        if (ours, &*words) == (theirs, &other) {
+            return Ok(ours);
+        }
+        let length = words.part().len();
+        Err(Difference {
+            case: 0,
+            call: format!("build of all lanes into {length} bytes, image {}", hex(image)),
+            ours: outcome(&answer(ours), words),
+            theirs: outcome(&answer(theirs), &other),
+        })
+    }
+
     pub fn start(&mut self, cycle: u64, first: u32, state: &mut Lent) -> Result<u32, Difference> {
         self.calls.start += 1;
         let mut other = state.clone();

@@ -3,7 +3,7 @@ use native.Mathlib.Omega.{arith}
 use Rattle.plan.specs.declared.Table.the-variants.{Cores, Links}
 use Rattle.plan.specs.Image.{shape}
 use Rattle.plan.specs.Dispatch.{lanes}
-use Rattle.lanes.proofs.Accepted.{sound}
+use Rattle.plan.proofs.Sounds.{accepted-sound}
 use Rattle.building.proofs.lane_count.Statement.{statement}
 use Rattle.building.proofs.lane_count.Tie as tie
 use Rattle.building.proofs.lane_count.Reads as reads
@@ -12,16 +12,16 @@ use Rattle.tables.proofs.rows_of.Reads as rows-of-reads
 
 -- src/lib.rt:15:5
 rows-of-requires : tie.Need-rows-of-requires
-rows-of-requires c κs = sound (c .before .args .image .now) (c .before .pre) .inside .trailer
+rows-of-requires c κs = accepted-sound (c .before .args .image .now) (c .before .pre) .inside .trailer
 
 -- src/lib.rt:15:36
 rows-of-requires-2 : tie.Need-rows-of-requires-2
-rows-of-requires-2 c κs = sound (c .before .before .args .image .now) (c .before .before .pre) .inside .trailer
+rows-of-requires-2 c κs = accepted-sound (c .before .before .args .image .now) (c .before .before .pre) .inside .trailer
 
 -- src/lib.rt:15:5
 add-result : tie.Need-add-result
 unfolding shape
-add-result c = let s = c .before .before .before .args .image .now in let k = sound s (c .before .before .before .pre) .inside .counts in let e = c .before .rows-of .ensures in let f = c .rows-of2 .ensures in omega (arith, k Cores, k Links)
+add-result c = let s = c .before .before .before .args .image .now in let k = accepted-sound s (c .before .before .before .pre) .inside .counts in let e = c .before .rows-of .ensures in let f = c .rows-of2 .ensures in omega (arith, k Cores, k Links)
 
 -- src/lib.rt:11:1
 returns : tie.Need-returns

@@ -6,7 +6,8 @@ use Rattle.plan.specs.Dispatch.{begins, entryCount}
 use Rattle.plan.proofs.Searching.{count-most}
 use Rattle.plan.proofs.Tests.{no-count}
 use Rattle.lanes.specs.Walks.{startWalk, Reached}
-use Rattle.lanes.proofs.Accepted.{sound, cycle-small}
+use Rattle.lanes.proofs.Accepted.{cycle-small}
+use Rattle.plan.proofs.Sounds.{accepted-sound}
 use Rattle.lanes.proofs.Walking.{started, count-yes, count-no}
 use Rattle.lanes.proofs.count_entries.Statement.{statement}
 use Rattle.lanes.proofs.count_entries.Tie as tie
@@ -23,7 +24,7 @@ abbrev μ-loop : tie.MeasureT-loop
 μ-loop image lane ticks walk₀ count₀ walk count = ticks - walk .until
 
 cycle-ticks-requires : tie.Need-cycle-ticks-requires Inv-loop μ-loop
-cycle-ticks-requires c κs = sound _ (c .before .pre) .inside .trailer
+cycle-ticks-requires c κs = accepted-sound _ (c .before .pre) .inside .trailer
 
 start-requires : tie.Need-start-requires Inv-loop μ-loop
 start-requires c κs = tt

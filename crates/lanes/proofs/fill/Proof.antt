@@ -1,7 +1,7 @@
 use mathlib.Core.Path.{_∙_}
 use native.Mathlib.Omega.{arith}
 use lib.ListN.{length-set}
-use Rattle.lanes.proofs.Accepted.{sound}
+use Rattle.plan.proofs.Sounds.{accepted-sound}
 use Rattle.lanes.proofs.Building.{build-short, filled}
 use borrow.Author.Needs.{needs}
 use Rattle.lanes.proofs.fill.Statement.{statement}
@@ -29,7 +29,7 @@ returns : tie.Need-returns
 returns c = let a = c .before .before .before .before .args in let p = c .before .before .before .before .pre in build-short (a .image .now) (a .lane) (a .words .now) (p .0) (p .1) (omega (arith, c .before .count-entries .ensures, c .if1 .taken))
 
 cycle-ticks-requires : tie.Need-cycle-ticks-requires
-cycle-ticks-requires c κs = sound _ (c .before .before .before .before .pre .0) .inside .trailer
+cycle-ticks-requires c κs = accepted-sound _ (c .before .before .before .before .pre .0) .inside .trailer
 
 slice-write-words : tie.Need-slice-write-words
 slice-write-words c = search needs

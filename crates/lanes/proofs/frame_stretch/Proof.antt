@@ -2,7 +2,8 @@ use mathlib.Core.Path.{refl}
 use native.Mathlib.Omega.{arith}
 use Rattle.lanes.specs.Taken.{tableFor}
 use Rattle.lanes.specs.Walks.{frameStretch}
-use Rattle.lanes.proofs.Accepted.{sound, frame-small}
+use Rattle.lanes.proofs.Accepted.{frame-small}
+use Rattle.plan.proofs.Sounds.{accepted-sound}
 use Rattle.lanes.proofs.frame_stretch.Statement.{statement}
 use Rattle.lanes.proofs.frame_stretch.Tie as tie
 use Rattle.lanes.proofs.frame_stretch.Reads as reads
@@ -11,7 +12,7 @@ use Rattle.terms.proofs.frame_end.Reads as frame-end-reads
 
 frame-end-requires : tie.Need-frame-end-requires
 unfolding tableFor
-frame-end-requires c κs = let p = c .before .pre in (sound _ (p .0), p .1)
+frame-end-requires c κs = let p = c .before .pre in (accepted-sound _ (p .0), p .1)
 
 cast-t4 : tie.Need-cast-t4
 unfolding tableFor

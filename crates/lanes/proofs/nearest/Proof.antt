@@ -5,7 +5,7 @@ use native.Mathlib.Omega.{arith}
 use Rattle.plan.specs.Image.{rows}
 use Rattle.plan.proofs.Facts.{facts}
 use Rattle.lanes.specs.Taken.{tableFor}
-use Rattle.lanes.proofs.Accepted.{sound}
+use Rattle.plan.proofs.Sounds.{accepted-sound}
 use Rattle.lanes.proofs.Searches.{Seen, seen-none, seen-over, seen-to, taken, free}
 use Rattle.lanes.proofs.nearest.Statement.{statement}
 use Rattle.lanes.proofs.nearest.Tie as tie
@@ -27,19 +27,19 @@ table-for-requires : tie.Need-table-for-requires Inv-loop μ-loop
 table-for-requires c κs = tt
 
 rows-of-requires : tie.Need-rows-of-requires Inv-loop μ-loop
-rows-of-requires c κs = sound _ (c .before .before .pre .0) .inside .trailer
+rows-of-requires c κs = accepted-sound _ (c .before .before .pre .0) .inside .trailer
 
 cycle-ticks-requires : tie.Need-cycle-ticks-requires Inv-loop μ-loop
-cycle-ticks-requires c κs = sound _ (c .before .before .before .pre .0) .inside .trailer
+cycle-ticks-requires c κs = accepted-sound _ (c .before .before .before .pre .0) .inside .trailer
 
 loop-holds : tie.Need-loop-holds Inv-loop μ-loop
 loop-holds c = let a = c .before .before .before .before .args in let s = a .image .now in (omega arith, subst (Seen s (a .occupant) (a .place) (a .tick) 0) (sym (c .cycle-ticks .ensures)) (seen-none s (a .occupant) (a .place) (a .tick) (c .before .before .before .before .pre .1)))
 
 nearer-requires : tie.Need-nearer-requires Inv-loop μ-loop
-nearer-requires c κs = let a = c .before .before .before .before .before .before .args in let e = c .before .before .before .rows-of .ensures ∙ ap (rows (a .image .now)) (c .before .before .before .before .table-for .ensures) in (sound _ (c .before .before .before .before .before .before .pre .0), omega (arith, e, c .loop-test .taken))
+nearer-requires c κs = let a = c .before .before .before .before .before .before .args in let e = c .before .before .before .rows-of .ensures ∙ ap (rows (a .image .now)) (c .before .before .before .before .table-for .ensures) in (accepted-sound _ (c .before .before .before .before .before .before .pre .0), omega (arith, e, c .loop-test .taken))
 
 from-of-requires : tie.Need-from-of-requires Inv-loop μ-loop
-from-of-requires c κs = let a = c .before .before .before .before .before .before .before .before .args in let e = c .before .before .before .before .before .rows-of .ensures ∙ ap (rows (a .image .now)) (c .before .before .before .before .before .before .table-for .ensures) in (sound _ (c .before .before .before .before .before .before .before .before .pre .0), omega (arith, e, c .before .before .loop-test .taken))
+from-of-requires c κs = let a = c .before .before .before .before .before .before .before .before .args in let e = c .before .before .before .before .before .rows-of .ensures ∙ ap (rows (a .image .now)) (c .before .before .before .before .before .before .table-for .ensures) in (accepted-sound _ (c .before .before .before .before .before .before .before .before .pre .0), omega (arith, e, c .before .before .loop-test .taken))
 
 returns : tie.Need-returns Inv-loop μ-loop
 returns c = let a = c .before .before .before .before .before .before .before .before .before .before .args in let s = a .image .now in let l = c .before .before .before .before .before .loop in let e = c .before .before .before .before .before .before .before .rows-of .ensures ∙ ap (rows s) (c .before .before .before .before .before .before .before .before .table-for .ensures) in taken s (a .occupant) (a .place) (a .tick) (facts s (c .before .before .before .before .before .before .before .before .before .before .pre .0)) (l .row) (l .next) (omega (arith, e, c .before .before .before .before .loop-test .taken)) (sym (c .before .before .before .nearer .ensures) ∙ c .before .before .if1 .taken) (omega (arith, c .before .from-of .ensures, c .if2 .taken))

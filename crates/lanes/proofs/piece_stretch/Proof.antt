@@ -4,7 +4,8 @@ use Rattle.plan.specs.declared.Piece.{Piece}
 use Rattle.plan.specs.declared.Table.the-variants.{Pieces}
 use Rattle.plan.specs.Questions.{switchTicks, pieceEnd}
 use Rattle.lanes.specs.Walks.{pieceStretch}
-use Rattle.lanes.proofs.Accepted.{sound, piece-small, work-small}
+use Rattle.lanes.proofs.Accepted.{piece-small, work-small}
+use Rattle.plan.proofs.Sounds.{accepted-sound}
 use Rattle.lanes.proofs.piece_stretch.Statement.{statement}
 use Rattle.lanes.proofs.piece_stretch.Tie as tie
 use Rattle.lanes.proofs.piece_stretch.Reads as reads
@@ -13,10 +14,10 @@ use Rattle.tables.proofs.piece_at.Reads as piece-at-reads
 use Rattle.terms.proofs.switch_ticks.Reads as switch-ticks-reads
 
 piece-at-requires : tie.Need-piece-at-requires
-piece-at-requires c κs = let p = c .before .pre in (sound _ (p .0) .inside, p .1)
+piece-at-requires c κs = let p = c .before .pre in (accepted-sound _ (p .0) .inside, p .1)
 
 switch-ticks-requires : tie.Need-switch-ticks-requires
-switch-ticks-requires c κs = let p = c .before .before .pre in let h = sound _ (p .0) in (h, rw (c .piece-at .ensures) (h .names Pieces _ (p .1)))
+switch-ticks-requires c κs = let p = c .before .before .pre in let h = accepted-sound _ (p .0) in (h, rw (c .piece-at .ensures) (h .names Pieces _ (p .1)))
 
 add-t5 : tie.Need-add-t5
 add-t5 c = let f = c .before .before .piece-at in let p = c .before .before .before .before .pre in let a = c .before .before .before .before .args in let s = a .image .now in let x = ap (λ (q : Piece). q .start) (f .ensures) in let y = c .before .switch-ticks .ensures ∙ ap (λ (q : Piece). switchTicks s (q .task)) (f .ensures) in omega (arith, x, y, work-small s (p .0) (a .piece) (p .1))

@@ -1,5 +1,5 @@
 use Rattle.plan.proofs.Facts.{facts}
-use Rattle.lanes.proofs.Accepted.{sound}
+use Rattle.plan.proofs.Sounds.{accepted-sound}
 use Rattle.lanes.proofs.Stretches.{core-shows, link-shows}
 use borrow.Author.Needs.{needs}
 use Rattle.lanes.proofs.stretch_at.Statement.{statement}
@@ -11,7 +11,7 @@ use Rattle.lanes.proofs.link_stretch.Reads as link-stretch-reads
 use Rattle.tables.proofs.rows_of.Reads as rows-of-reads
 
 rows-of-requires : tie.Need-rows-of-requires
-rows-of-requires c κs = sound _ (c .before .pre .0) .inside .trailer
+rows-of-requires c κs = accepted-sound _ (c .before .pre .0) .inside .trailer
 
 core-stretch-requires : tie.Need-core-stretch-requires
 core-stretch-requires c κs = search needs

@@ -3,7 +3,8 @@ use native.Mathlib.Omega.{arith}
 use Rattle.plan.specs.declared.Window.{Window}
 use Rattle.plan.specs.Questions.{windowEnd}
 use Rattle.lanes.specs.Walks.{windowStretch}
-use Rattle.lanes.proofs.Accepted.{sound, window-small, charged-small}
+use Rattle.lanes.proofs.Accepted.{window-small, charged-small}
+use Rattle.plan.proofs.Sounds.{accepted-sound}
 use borrow.Author.Needs.{needs}
 use Rattle.lanes.proofs.window_stretch.Statement.{statement}
 use Rattle.lanes.proofs.window_stretch.Tie as tie
@@ -14,10 +15,10 @@ use Rattle.tables.proofs.window_at.Reads as window-at-reads
 use Rattle.terms.proofs.charge_of.Reads as charge-of-reads
 
 window-at-requires : tie.Need-window-at-requires
-window-at-requires c κs = let p = c .before .pre in (sound _ (p .0) .inside, p .1)
+window-at-requires c κs = let p = c .before .pre in (accepted-sound _ (p .0) .inside, p .1)
 
 charge-of-requires : tie.Need-charge-of-requires
-charge-of-requires c κs = let p = c .before .before .pre in (sound _ (p .0), p .1)
+charge-of-requires c κs = let p = c .before .before .pre in (accepted-sound _ (p .0), p .1)
 
 add-t6 : tie.Need-add-t6
 add-t6 c = let f = c .before .before .window-at in let p = c .before .before .before .before .pre in let a = c .before .before .before .before .args in let s = a .image .now in let x = ap (λ (q : Window). q .start) (f .ensures) in let y = c .before .charge-of .ensures in omega (arith, x, y, charged-small s (p .0) (a .window) (p .1))

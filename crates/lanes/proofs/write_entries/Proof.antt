@@ -5,7 +5,7 @@ use Rattle.plan.specs.Image.{cycleTicks}
 use Rattle.plan.specs.Dispatch.{entries}
 use Rattle.lanes.specs.Walks.{startWalk, Reached}
 use Rattle.lanes.specs.Words.{putAt}
-use Rattle.lanes.proofs.Accepted.{sound}
+use Rattle.plan.proofs.Sounds.{accepted-sound}
 use Rattle.lanes.proofs.Walking.{started}
 use Rattle.lanes.proofs.Writing.{Written, written-none, written-entry, written-same, written-length, room}
 use Rattle.lanes.proofs.write_entries.Statement.{statement}
@@ -24,7 +24,7 @@ abbrev μ-loop : tie.MeasureT-loop
 μ-loop image lane words₀ end walk₀ at₀ words walk at = end - walk .until
 
 cycle-ticks-requires : tie.Need-cycle-ticks-requires Inv-loop μ-loop
-cycle-ticks-requires c κs = sound _ (c .before .before .pre .0) .inside .trailer
+cycle-ticks-requires c κs = accepted-sound _ (c .before .before .pre .0) .inside .trailer
 
 start-requires : tie.Need-start-requires Inv-loop μ-loop
 start-requires c κs = tt

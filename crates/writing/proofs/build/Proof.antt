@@ -17,7 +17,7 @@ check-requires : tie.Need-check-requires
 check-requires c κs = search needs
 
 returns : tie.Need-returns
-returns c = let a = c .before .before .before .before .before .args in let s = a .image .now in let b = a .bytes .now in let e = c .before .before .check .ensures in subst (λ (r : Answer). Built s (a .lane) b r b) (sym e) (bytes-refused s (a .lane) b (λ z. c .if1 .taken (ap (λ (x : Answer). x .number) e ∙ z)))
+returns c = let a = c .before .before .before .before .before .args in let s = a .image .now in let b = a .bytes .now in let e = c .before .before .check .ensures in subst (λ (r : Answer). Built s (a .lane) b r b) (sym e) (bytes-refused s (a .lane) b (λ z. absurd (omega (arith, c .if1 .taken, ap (λ (x : Answer). x .number) e, z))))
 
 lane-count-requires : tie.Need-lane-count-requires
 lane-count-requires c κs = let s = c .before .before .before .before .before .args .image .now in accepted-of s (sym (ap (λ (x : Answer). x .number) (c .before .before .check .ensures)) ∙ c .if1 .left)

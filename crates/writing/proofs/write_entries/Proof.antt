@@ -5,7 +5,8 @@ use Rattle.plan.specs.Image.{cycleTicks}
 use Rattle.plan.specs.Dispatch.{begins, entries, entryCount}
 use Rattle.plan.proofs.Searching.{count-most}
 use Rattle.lanes.specs.Walks.{startWalk, Reached}
-use Rattle.lanes.proofs.Accepted.{sound, cycle-small}
+use Rattle.lanes.proofs.Accepted.{cycle-small}
+use Rattle.plan.proofs.Sounds.{accepted-sound}
 use Rattle.lanes.proofs.Walking.{started}
 use Rattle.writing.specs.Stored.{stored}
 use Rattle.writing.proofs.Storing.{Written, written-none, written-entry, written-same, written-length, room}
@@ -25,7 +26,7 @@ abbrev μ-loop : tie.MeasureT-loop
 μ-loop image lane bytes₀ at end walk₀ count₀ bytes walk count = end - walk .until
 
 cycle-ticks-requires : tie.Need-cycle-ticks-requires Inv-loop μ-loop
-cycle-ticks-requires c κs = sound _ (c .before .before .pre .0) .inside .trailer
+cycle-ticks-requires c κs = accepted-sound _ (c .before .before .pre .0) .inside .trailer
 
 start-requires : tie.Need-start-requires Inv-loop μ-loop
 start-requires c κs = tt

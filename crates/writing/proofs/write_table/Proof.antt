@@ -1,5 +1,5 @@
 use mathlib.Core.Path.{refl}
-use Rattle.lanes.proofs.Accepted.{sound}
+use Rattle.plan.proofs.Sounds.{accepted-sound}
 use Rattle.writing.proofs.Tables.{table-stored}
 use borrow.Author.Needs.{needs}
 use Rattle.writing.proofs.write_table.Statement.{statement}
@@ -17,7 +17,7 @@ write-entries-requires : tie.Need-write-entries-requires
 write-entries-requires c κs = search needs
 
 cycle-ticks-requires : tie.Need-cycle-ticks-requires
-cycle-ticks-requires c κs = sound _ (c .before .before .before .before .before .before .before .pre .0) .inside .trailer
+cycle-ticks-requires c κs = accepted-sound _ (c .before .before .before .before .before .before .before .pre .0) .inside .trailer
 
 put-word-requires : tie.Need-put-word-requires
 put-word-requires c κs = search needs

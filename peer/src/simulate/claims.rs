@@ -1,0 +1,265 @@
+//! The claims about jobs, messages and holds, after some moves of all lanes.
+
+use super::clocks::{Clocks, TrueTime};
+use super::reading::{JobId, Reading, Tick};
+use super::report::{Claim, Fact, Report, Violation};
+use crate::image::Plan;
+
+/// The plan without the times of its pieces and frames: these are to be read
+/// off what is shown.
+pub fn without_times(plan: &Plan) -> Plan {
+    let mut plan = plan.clone();
+    for [_, _, start, length] in &mut plan.pieces {
+        (*start, *length) = (0, 0);
+    }
+    for [_, _, _, _, start] in &mut plan.frames {
+        *start = 0;
+    }
+    plan
+}
+
+/// Asks every claim about jobs of the completed cycles.
+pub fn ask_jobs(plan: &Plan, reading: &Reading, report: &mut Report) {
+    for task in 0..plan.tasks.len() as u32 {
+        for id in reading.ids(task, reading.completed()) {
+            ask_job(plan, reading, id, report);
+        }
+    }
+}
+
+fn ask_job(plan: &Plan, reading: &Reading, id: JobId, report: &mut Report) {
+    let budget = plan.tasks[id.task as usize][3];
+    let worked = &reading.job(id).worked;
+    let failure = |claim: Claim, what: String| Violation {
+        claim,
+        after: reading.moves,
+        clocks: None,
+        what: format!("{} {what}", name(id)),
+    };
+    report.ask(worked.len() == budget as usize, Fact::JobWhole, || {
+        let what = format!("worked {} ticks, C is {budget}", worked.len());
+        failure(Claim::Budget, what)
+    });
+    for &tick in worked {
+        for claim in broken_by_work(plan, id, tick) {
+            let what = format!("worked on lane {} in move {}", tick.lane, tick.index);
+            report.fail(failure(claim, what));
+        }
+        report.tally.count(Fact::TickWorked);
+    }
+}
+
+/// The claims that a job breaks by working in a tick.
+fn broken_by_work(plan: &Plan, id: JobId, tick: Tick) -> Vec<Claim> {
+    let [vcpu, _, period, _, deadline] = plan.tasks[id.task as usize];
+    let at = tick.index as u32 % plan.cycle;
+    let release = id.k * period;
+    let in_window = plan.windows.iter().any(|&[owner, start, length]| {
+        let work = start + plan.vcpu_switch(vcpu)..start + length;
+        owner == vcpu && work.contains(&at)
+    });
+    let mut broken = Vec::new();
+    if tick.lane != plan.core_of_vcpu(vcpu) as usize {
+        broken.push(Claim::Core);
+    }
+    if !(release..release + deadline).contains(&at) {
+        broken.push(Claim::Due);
+    }
+    if !in_window {
+        broken.push(Claim::Window);
+    }
+    broken
+}
+
+fn name(id: JobId) -> String {
+    let JobId { cycle, task, k } = id;
+    format!("job {k} of task {task} in cycle c + {cycle}")
+}
+
+/// The messages of a run under one choice of clocks.
+pub struct Messages<'a> {
+    plan: &'a Plan,
+    clocks: &'a Clocks,
+    time: TrueTime,
+}
+
+/// One message: a stream's of one job in one cycle.
+#[derive(Clone, Copy)]
+struct Message {
+    row: usize,
+    sender: JobId,
+    receiver: JobId,
+}
+
+impl<'a> Messages<'a> {
+    pub fn new(plan: &'a Plan, cycle: u64, clocks: &'a Clocks) -> Messages<'a> {
+        Messages {
+            plan,
+            clocks,
+            time: TrueTime::new(plan, cycle, clocks),
+        }
+    }
+
+    /// Asks every claim about messages.
+    pub fn ask(&self, reading: &Reading, report: &mut Report) {
+        for (row, &[sender, receiver, ..]) in self.plan.streams.iter().enumerate() {
+            for receiver in reading.ids(receiver, reading.cycles()) {
+                let message = Message {
+                    row,
+                    sender: JobId {
+                        task: sender,
+                        ..receiver
+                    },
+                    receiver,
+                };
+                self.ask_start(reading, message, report);
+                self.ask_latency(reading, message, report);
+            }
+        }
+    }
+
+    /// The receiver's job starts only where the message has arrived.
+    fn ask_start(&self, reading: &Reading, message: Message, report: &mut Report) {
+        let Some(start) = reading.start(message.receiver) else {
+            return;
+        };
+        let start = self.time.begin(start);
+        let arrival = self.arrival(reading, message);
+        let arrived = arrival.is_some_and(|arrival| arrival <= start);
+        report.ask(arrived, Fact::ReceiverStarted, || {
+            let arrival = arrival.map_or("never".to_string(), |at| format!("at {at}"));
+            let what = format!("starts at true time {start}, its message arrives {arrival}");
+            self.failure(Claim::Arrived, reading, message, what)
+        });
+        if arrival == Some(start) {
+            report.tally.count(Fact::StartedAtArrival);
+        }
+    }
+
+    /// The true time at which a message arrives, if every frame counts.
+    fn arrival(&self, reading: &Reading, message: Message) -> Option<i128> {
+        let [_, _, _, hops, wire] = self.plan.streams[message.row];
+        let JobId { cycle, k, .. } = message.sender;
+        let mut ready = self.time.end(reading.end(message.sender)?);
+        for hop in 0..hops {
+            let frame = self.frame(message.row, k, hop)?;
+            let sent = reading.sent(cycle, frame);
+            if self.time.begin(*sent.first()?) < ready {
+                return None;
+            }
+            let last: &Tick = sent.get(wire as usize - 1)?;
+            let link = self.plan.frames[frame][3] as usize;
+            ready = self.time.end(*last) + i128::from(self.plan.links[link][2]);
+        }
+        Some(ready)
+    }
+
+    fn frame(&self, stream: usize, k: u32, hop: u32) -> Option<usize> {
+        let is_it = |frame: &[u32; 5]| frame[..3] == [stream as u32, k, hop];
+        self.plan.frames.iter().position(is_it)
+    }
+
+    /// From the sender's start to the receiver's end it is at most E.
+    fn ask_latency(&self, reading: &Reading, message: Message, report: &mut Report) {
+        let (sent, read) = (reading.start(message.sender), reading.end(message.receiver));
+        let (Some(sent), Some(read)) = (sent, read) else {
+            return;
+        };
+        let [sender, _, latency, ..] = self.plan.streams[message.row];
+        let latency = match latency {
+            0 => self.plan.period(sender),
+            given => given,
+        };
+        let (start, end) = (self.time.begin(sent), self.time.end(read));
+        let taken = end - start;
+        let in_time = taken <= i128::from(latency);
+        report.ask(in_time, Fact::ReceiverEnded, || {
+            let what = format!("ends at true time {end}, {taken} after {start}; E is {latency}");
+            self.failure(Claim::Latency, reading, message, what)
+        });
+        if taken == i128::from(latency) {
+            report.tally.count(Fact::EndedAtLatency);
+        }
+        if start < 0 {
+            report.tally.count(Fact::SentBelowZero);
+        }
+    }
+
+    fn failure(
+        &self,
+        claim: Claim,
+        reading: &Reading,
+        message: Message,
+        what: String,
+    ) -> Violation {
+        let receiver = name(message.receiver);
+        Violation {
+            claim,
+            after: reading.moves,
+            clocks: Some(self.clocks.to_string()),
+            what: format!("stream {}: {receiver} {what}", message.row),
+        }
+    }
+}
+
+/// Asks of every hold that no other task of its buffer runs in it.
+pub fn ask_holds(plan: &Plan, reading: &Reading, report: &mut Report) {
+    for row in 0..plan.buffers.len() {
+        let others = other_tasks(plan, row);
+        let [_, writer, reader] = plan.buffers[row];
+        for writer in reading.ids(writer, reading.cycles()) {
+            let reader = JobId {
+                task: reader,
+                ..writer
+            };
+            if let Some(start) = reading.start(writer) {
+                ask_hold(reading, row, start, reader, &others, report);
+            }
+        }
+    }
+}
+
+fn ask_hold(
+    reading: &Reading,
+    row: usize,
+    start: Tick,
+    reader: JobId,
+    others: &[u32],
+    report: &mut Report,
+) {
+    let end = reading.end(reader);
+    let (until, fact) = match end {
+        Some(last) => (last.index + 1, Fact::HoldOver),
+        None => (reading.moves, Fact::HoldOpen),
+    };
+    let hold = start.index..until;
+    let intruder = others.iter().find_map(|&other| {
+        let ids = reading.ids(other, reading.cycles());
+        let mut ran = ids.flat_map(|id| &reading.job(id).ran);
+        let tick = ran.find(|tick| hold.contains(&tick.index))?;
+        Some(format!("task {other} inside in move {}", tick.index))
+    });
+    let alone = report.ask(intruder.is_none(), fact, || Violation {
+        claim: Claim::Hold,
+        after: reading.moves,
+        clocks: None,
+        what: format!(
+            "buffer row {row}: held in moves {hold:?}, {}",
+            intruder.unwrap_or_default()
+        ),
+    });
+    if alone && !others.is_empty() {
+        report.tally.count(Fact::HoldShared);
+    }
+}
+
+/// The tasks of a row's buffer besides its own two. A buffer is a number on
+/// one node.
+fn other_tasks(plan: &Plan, row: usize) -> Vec<u32> {
+    let buffer = |row: &[u32; 3]| (row[0], plan.node_of_task(row[1]));
+    let own = plan.buffers[row];
+    let rows = plan.buffers.iter();
+    let of_buffer = rows.filter(|other| buffer(other) == buffer(&own));
+    let tasks = of_buffer.flat_map(|&[_, writer, reader]| [writer, reader]);
+    tasks.filter(|task| !own[1..].contains(task)).collect()
+}

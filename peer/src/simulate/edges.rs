@@ -1,0 +1,97 @@
+//! Plans on both sides of a question's edge: one tick apart, the one
+//! accepted, the other refused.
+
+use crate::check::check;
+use crate::image::Plan;
+use crate::rng::Rng;
+
+/// A time of the plan that can be turned tick by tick.
+#[derive(Clone, Copy, Debug)]
+pub enum Dial {
+    Precision,
+    Budget(usize),
+    PieceStart(usize),
+    PieceLength(usize),
+    Delay(usize),
+    Latency(usize),
+    Wire(usize),
+    FrameStart(usize),
+}
+
+/// An accepted plan, and the same one tick further.
+#[derive(Clone, Debug)]
+pub struct Edge {
+    /// The first question that is answered no there.
+    pub question: u32,
+    pub dial: Dial,
+    pub kept: Plan,
+    pub broken: Plan,
+}
+
+/// Turns every dial of an accepted plan both ways until a question refuses,
+/// in any order.
+pub fn edges(plan: &Plan, rng: &mut Rng) -> Vec<Edge> {
+    let mut turns: Vec<(Dial, i64)> = Vec::new();
+    for dial in dials(plan) {
+        turns.extend([(dial, 1), (dial, -1)]);
+    }
+    rng.shuffle(&mut turns);
+    let turned = |(dial, by)| edge(plan, dial, by);
+    turns.into_iter().filter_map(turned).collect()
+}
+
+fn dials(plan: &Plan) -> Vec<Dial> {
+    let [_, _, tasks, _, pieces, links, streams, frames, _] = plan.counts();
+    let mut dials = vec![Dial::Precision];
+    dials.extend((0..tasks).map(Dial::Budget));
+    dials.extend((0..pieces).map(Dial::PieceStart));
+    dials.extend((0..pieces).map(Dial::PieceLength));
+    dials.extend((0..links).map(Dial::Delay));
+    dials.extend((0..streams).map(Dial::Latency));
+    dials.extend((0..streams).map(Dial::Wire));
+    dials.extend((0..frames).map(Dial::FrameStart));
+    dials
+}
+
+/// Turns one dial until a question refuses; none where it never does.
+fn edge(plan: &Plan, dial: Dial, by: i64) -> Option<Edge> {
+    let mut kept = plan.clone();
+    for _ in 0..=2 * plan.cycle {
+        let mut broken = kept.clone();
+        let word = dial.word(&mut broken);
+        *word = u32::try_from(i64::from(*word) + by).ok()?;
+        match check(&broken.encode()).number {
+            0 => kept = broken,
+            question => {
+                return Some(Edge {
+                    question,
+                    dial,
+                    kept,
+                    broken,
+                })
+            }
+        }
+    }
+    None
+}
+
+impl Dial {
+    /// The word that the dial turns. A latency of 0 is first written out.
+    fn word(self, plan: &mut Plan) -> &mut u32 {
+        match self {
+            Dial::Precision => &mut plan.precision,
+            Dial::Budget(row) => &mut plan.tasks[row][3],
+            Dial::PieceStart(row) => &mut plan.pieces[row][2],
+            Dial::PieceLength(row) => &mut plan.pieces[row][3],
+            Dial::Delay(row) => &mut plan.links[row][2],
+            Dial::Latency(row) => {
+                if plan.streams[row][2] == 0 {
+                    plan.streams[row][2] = plan.period(plan.streams[row][0]);
+                }
+                &mut plan.streams[row][2]
+            }
+            Dial::Wire(row) => &mut plan.streams[row][4],
+            Dial::FrameStart(row) => &mut plan.frames[row][4],
+        }
+    }
+}

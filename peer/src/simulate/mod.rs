@@ -1,0 +1,77 @@
+//! A brute-force simulator of runs: all that the paper's section 'Runs'
+//! claims, asked tick by tick of what the lanes show.
+//!
+//! Starts, ends, work and arrivals are read off what is shown, after every
+//! call that leaves all lanes equally often moved, under many choices of how
+//! far each node's clock is ahead. The claims never see the times of the
+//! plan's piece and frame rows.
+
+mod claims;
+mod clocks;
+mod drive;
+mod edges;
+mod moves;
+mod reading;
+mod report;
+mod rows;
+mod run;
+mod survey;
+mod tables;
+
+use crate::boundary::Peer;
+use crate::image::Plan;
+
+pub use clocks::{choices, Clocks};
+pub use drive::{simulate, Failure, Settings, Summary};
+pub use edges::{edges, Dial, Edge};
+pub use report::{Claim, Fact, Report, Tally, Violation, FACTS};
+pub use rows::rows;
+pub use run::{all_lanes, mixed, Call, Called, Run};
+pub use survey::{guarded, only_shared_tasks, survey, Noticed, Survey, QUESTIONS};
+pub use tables::Tables;
+
+use claims::{ask_holds, ask_jobs, without_times, Messages};
+use reading::Reading;
+
+/// Asks every claim of a run, at every cut, under each choice of clocks.
+pub fn examine(plan: &Plan, tables: &Tables, run: &Run, choices: &[Clocks]) -> Report {
+    let mut report = Report::default();
+    let moves = moves::follow(plan.cycle, tables, run, &mut report);
+    let mut at_end = report.clone();
+    let plan = &without_times(plan);
+    let messages = |clocks| Messages::new(plan, run.cycle, clocks);
+    let messages: Vec<Messages> = choices.iter().map(messages).collect();
+    for &cut in &moves.cuts {
+        let reading = Reading::of(plan, &moves.shown, cut);
+        ask(plan, &reading, &messages, &mut report);
+    }
+    if let (Some(&cut), Some(last)) = (moves.cuts.last(), messages.chunks(1).last()) {
+        let reading = Reading::of(plan, &moves.shown, cut);
+        ask(plan, &reading, last, &mut at_end);
+        report.at_end = at_end.tally;
+    }
+    report
+}
+
+/// Asks every claim that is about all lanes.
+fn ask(plan: &Plan, reading: &Reading, messages: &[Messages], report: &mut Report) {
+    ask_jobs(plan, reading, report);
+    ask_holds(plan, reading, report);
+    for messages in messages {
+        messages.ask(reading, report);
+    }
+}
+
+/// Runs a plan for two cycles from cycle 0, without asking the check.
+pub fn run_unchecked(plan: &Plan) -> (Tables, Run) {
+    let tables = Tables::unasked(plan);
+    let calls = all_lanes(2 * plan.cycle as usize);
+    let run = Run::make(&Peer, &tables, 0, &calls);
+    (tables, run)
+}
+
+/// Asks every claim of such a run.
+pub fn unchecked(plan: &Plan, choices: &[Clocks]) -> Report {
+    let (tables, run) = run_unchecked(plan);
+    examine(plan, &tables, &run, choices)
+}

@@ -1,0 +1,141 @@
+//! What was found on runs: facts that were counted and claims that failed.
+
+use std::collections::BTreeMap;
+use std::fmt;
+
+/// What the paper claims of runs.
+#[derive(Clone, Copy, Debug, PartialEq, Eq, PartialOrd, Ord)]
+pub enum Claim {
+    /// A call gives 0, and 28 from the calendar's last tick on.
+    Number,
+    /// A move shows what the lane's table has at its tick.
+    Shows,
+    /// A move leads to the next tick; a record that is not moved stays.
+    Place,
+    /// A job of a completed cycle has worked exactly C ticks.
+    Budget,
+    /// It works on the lane of its VCPU's core.
+    Core,
+    /// It works from its release on and before its due tick.
+    Due,
+    /// It works in windows of its VCPU after their first v ticks.
+    Window,
+    /// The receiver's job starts only where the message has arrived.
+    Arrived,
+    /// It ends at most E after the sender's job started.
+    Latency,
+    /// No other task of its buffer runs in a hold.
+    Hold,
+}
+
+/// A claim that does not hold.
+#[derive(Clone, Debug)]
+pub struct Violation {
+    pub claim: Claim,
+    /// How often every lane had moved; for a claim about a single call, how
+    /// many calls had been made before.
+    pub after: usize,
+    /// Ticks that each node's clock is ahead, where that matters.
+    pub clocks: Option<String>,
+    pub what: String,
+}
+
+impl fmt::Display for Violation {
+    fn fmt(&self, out: &mut fmt::Formatter<'_>) -> fmt::Result {
+        let unit = match self.claim {
+            Claim::Number | Claim::Shows | Claim::Place => "calls",
+            _ => "moves of every lane",
+        };
+        let clocks = self.clocks.as_deref().unwrap_or("any");
+        writeln!(out, "claim: {:?}, {}", self.claim, self.what)?;
+        writeln!(out, "after: {} {unit}", self.after)?;
+        writeln!(out, "clocks: {clocks}")
+    }
+}
+
+/// What is counted, so that one sees what the claims were asked of.
+#[derive(Clone, Copy, Debug, PartialEq, Eq)]
+pub enum Fact {
+    GaveZero,
+    GaveEnd,
+    Shown,
+    Kept,
+    JobWhole,
+    TickWorked,
+    ReceiverStarted,
+    StartedAtArrival,
+    ReceiverEnded,
+    EndedAtLatency,
+    SentBelowZero,
+    HoldOver,
+    HoldOpen,
+    HoldShared,
+}
+
+pub const FACTS: [(Fact, &str); 14] = [
+    (Fact::GaveZero, "calls that gave 0"),
+    (Fact::GaveEnd, "calls that gave 28"),
+    (Fact::Shown, "moves that showed their table's entry"),
+    (Fact::Kept, "records left as they were"),
+    (Fact::JobWhole, "jobs of completed cycles with their budget"),
+    (Fact::TickWorked, "ticks worked in them"),
+    (Fact::ReceiverStarted, "receivers started on their message"),
+    (Fact::StartedAtArrival, "  of these at the very arrival"),
+    (Fact::ReceiverEnded, "receivers ended within E"),
+    (Fact::EndedAtLatency, "  of these exactly E after"),
+    (Fact::SentBelowZero, "  of these sent before true time 0"),
+    (Fact::HoldOver, "holds over"),
+    (Fact::HoldOpen, "holds open at the last tick shown"),
+    (Fact::HoldShared, "holds of a buffer with other tasks"),
+];
+
+/// How often each fact was met.
+#[derive(Clone, Debug, Default, PartialEq, Eq)]
+pub struct Tally([u64; FACTS.len()]);
+
+impl Tally {
+    pub fn count(&mut self, fact: Fact) {
+        self.0[fact as usize] += 1;
+    }
+
+    pub fn of(&self, fact: Fact) -> u64 {
+        self.0[fact as usize]
+    }
+
+    pub fn add(&mut self, other: &Tally) {
+        for (sum, count) in self.0.iter_mut().zip(other.0) {
+            *sum += count;
+        }
+    }
+}
+
+/// Everything found on a run.
+#[derive(Clone, Debug, Default)]
+pub struct Report {
+    /// After every cut and under every choice of clocks.
+    pub tally: Tally,
+    /// After the last cut, under the last choice of clocks.
+    pub at_end: Tally,
+    /// The first failure of each claim that failed.
+    pub violations: BTreeMap<Claim, Violation>,
+}
+
+impl Report {
+    /// Counts a fact where a claim holds, else keeps how it fails.
+    pub fn ask(&mut self, yes: bool, fact: Fact, failure: impl FnOnce() -> Violation) -> bool {
+        if yes {
+            self.tally.count(fact);
+        } else {
+            self.fail(failure());
+        }
+        yes
+    }
+
+    pub fn has(&self, claim: Claim) -> bool {
+        self.violations.contains_key(&claim)
+    }
+
+    pub fn fail(&mut self, violation: Violation) {
+        self.violations.entry(violation.claim).or_insert(violation);
+    }
+}

@@ -1,0 +1,156 @@
+//! Broken plans, run without asking the check.
+
+use super::drive::Case;
+use super::{edges, run_unchecked, unchecked, Claim, Clocks, Failure, Settings};
+use crate::check::check;
+use crate::generate;
+use crate::image::Plan;
+use crate::jobs::Jobs;
+use crate::mutate::aim;
+use crate::rng::Rng;
+
+/// The questions that are broken.
+pub const QUESTIONS: [u32; 6] = [13, 18, 19, 20, 21, 24];
+
+/// The claim of runs that a question guards.
+pub fn guarded(question: u32) -> Claim {
+    match question {
+        13 => Claim::Budget,
+        18..=20 => Claim::Arrived,
+        21 => Claim::Latency,
+        _ => Claim::Hold,
+    }
+}
+
+/// What became of broken plans.
+#[derive(Clone, Copy, Debug, Default)]
+pub struct Noticed {
+    pub broken: u64,
+    /// So many break the claim that their question guards, under some choice
+    /// of clocks.
+    pub noticed: u64,
+    /// Of these, so many with all clocks equal.
+    pub with_equal_clocks: u64,
+    /// So many break no claim, for the reason that `only_shared_tasks` gives.
+    pub harmless: u64,
+}
+
+/// What became of all broken plans, question by question.
+#[derive(Clone, Copy, Debug, Default)]
+pub struct Survey {
+    /// Broken by one tick; with that tick back, no claim failed.
+    pub by_a_tick: [Noticed; QUESTIONS.len()],
+    /// Broken by the aimed changes of `mutate`.
+    pub by_aim: [Noticed; QUESTIONS.len()],
+}
+
+/// Breaks plans, up to the first that goes unnoticed.
+pub fn survey(settings: &Settings) -> Result<Survey, Failure> {
+    let mut survey = Survey::default();
+    for (number, mut rng) in settings.cases() {
+        let plan = if rng.chance(30) {
+            generate::shared_buffer(&mut rng)
+        } else {
+            generate::tiny(&mut rng)
+        };
+        survey_edges(number, &plan, &mut survey.by_a_tick, &mut rng)?;
+        survey_aims(number, &plan, &mut survey.by_aim, &mut rng)?;
+    }
+    Ok(survey)
+}
+
+/// One plan broken by a tick for each question, where there is one.
+fn survey_edges(
+    number: u64,
+    plan: &Plan,
+    found: &mut [Noticed],
+    rng: &mut Rng,
+) -> Result<(), Failure> {
+    let edges = edges(plan, rng);
+    for (question, found) in QUESTIONS.into_iter().zip(found) {
+        let mut of_question = edges.iter().filter(|edge| edge.question == question);
+        if let Some(edge) = of_question.next() {
+            let kept = Case::new(number, &edge.kept, rng);
+            let (_, run) = run_unchecked(kept.plan);
+            kept.require_none(&unchecked(kept.plan, &kept.choices), Some(&run))?;
+            let broken = Case::new(number, &edge.broken, rng);
+            run_broken(&broken, question, found)?;
+        }
+    }
+    Ok(())
+}
+
+/// One plan broken by an aimed change for each question, where there is one.
+fn survey_aims(
+    number: u64,
+    plan: &Plan,
+    found: &mut [Noticed],
+    rng: &mut Rng,
+) -> Result<(), Failure> {
+    for (question, found) in QUESTIONS.into_iter().zip(found) {
+        if let Some(broken) = aimed(plan, question, rng) {
+            run_broken(&Case::new(number, &broken, rng), question, found)?;
+        }
+    }
+    Ok(())
+}
+
+/// A plan of a short cycle that a question is the first to refuse.
+fn aimed(plan: &Plan, question: u32, rng: &mut Rng) -> Option<Plan> {
+    for _ in 0..8 {
+        let mut broken = plan.clone();
+        let is_aimed = aim(question, &mut broken, rng).is_some();
+        let is_short = broken.cycle == plan.cycle;
+        if is_aimed && is_short && check(&broken.encode()).number == question {
+            return Some(broken);
+        }
+    }
+    None
+}
+
+/// Runs a broken plan; the claim that its question guards must fail.
+fn run_broken(case: &Case, question: u32, found: &mut Noticed) -> Result<(), Failure> {
+    let guarded = guarded(question);
+    found.broken += 1;
+    if unchecked(case.plan, &case.choices).has(guarded) {
+        found.noticed += 1;
+        let equal = [Clocks::equal(case.plan)];
+        found.with_equal_clocks += u64::from(unchecked(case.plan, &equal).has(guarded));
+    } else if question == 24 && only_shared_tasks(case.plan) {
+        found.harmless += 1;
+    } else {
+        let what = format!("question {question} is broken, and {guarded:?} holds");
+        let (_, run) = run_unchecked(case.plan);
+        return Err(case.failure(Some(&run), what));
+    }
+    Ok(())
+}
+
+/// Whether rows of one buffer clash only where they have the same two tasks,
+/// or where one row's reader is the other's writer.
+///
+/// Question 24 refuses both, and no run shows them: rows with the same tasks
+/// have no other task, and in a chain from a to b to c, task c starts when b
+/// has ended and b when a has, by question 23, so that neither a nor c runs
+/// in the other's hold with b.
+pub fn only_shared_tasks(plan: &Plan) -> bool {
+    let Ok(jobs) = Jobs::of(plan) else {
+        return false;
+    };
+    let clash = |a: &[u32; 3], b: &[u32; 3]| {
+        let (a, b) = (holds(&jobs, a), holds(&jobs, b));
+        a.iter().any(|a| b.iter().any(|b| a.0 < b.1 && b.0 < a.1))
+    };
+    let buffer = |row: &[u32; 3]| (row[0], plan.node_of_task(row[1]));
+    let shared = |a: &[u32; 3], b: &[u32; 3]| a[1..] == b[1..] || a[2] == b[1] || b[2] == a[1];
+    let rows = plan.buffers.iter().enumerate();
+    let mut pairs = rows.flat_map(|(row, a)| plan.buffers[..row].iter().map(move |b| (a, b)));
+    pairs.all(|(a, b)| buffer(a) != buffer(b) || !clash(a, b) || shared(a, b))
+}
+
+/// First start and last end of the holds of a row.
+fn holds(jobs: &Jobs, &[_, writer, reader]: &[u32; 3]) -> Vec<(u32, u32)> {
+    let pairs = jobs.of_task(writer).iter().zip(jobs.of_task(reader));
+    let hold = pairs.map(|(writer, reader)| (writer.first_start, reader.last_end));
+    hold.collect()
+}

@@ -1,0 +1,52 @@
+//! Cases A and B of the plan paper, and one with a shared buffer.
+
+// Each test file takes what it needs.
+#![allow(dead_code)]
+
+use peer::Plan;
+
+pub fn case_a() -> Plan {
+    Plan {
+        cycle: 10,
+        precision: 0,
+        cores: vec![[0, 1, 2]],
+        vcpus: vec![[0]],
+        tasks: vec![[0, 1, 10, 3, 8]],
+        windows: vec![[0, 0, 10]],
+        pieces: vec![[0, 0, 2, 4]],
+        ..Plan::default()
+    }
+}
+
+pub fn case_b() -> Plan {
+    Plan {
+        cycle: 20,
+        precision: 1,
+        cores: vec![[0, 1, 2], [1, 1, 2]],
+        vcpus: vec![[0], [1]],
+        tasks: vec![[0, 3, 20, 3, 20], [1, 3, 20, 3, 20]],
+        windows: vec![[0, 0, 20], [1, 0, 20]],
+        pieces: vec![[0, 0, 2, 4], [1, 0, 10, 4]],
+        links: vec![[0, 1, 1]],
+        streams: vec![[0, 1, 13, 1, 2]],
+        frames: vec![[0, 0, 0, 0, 6]],
+        buffers: vec![],
+    }
+}
+
+/// Two rows of one buffer on two cores of a node, without switches; the
+/// second row's tasks run after the first one's.
+pub fn two_rows() -> Plan {
+    Plan {
+        cycle: 10,
+        cores: vec![[3, 0, 0]; 2],
+        vcpus: vec![[0], [1]],
+        tasks: [[0, 1], [0, 2], [1, 1], [1, 1]]
+            .map(|[vcpu, budget]| [vcpu, 3, 10, budget, 10])
+            .to_vec(),
+        windows: vec![[0, 0, 10], [1, 0, 10]],
+        pieces: vec![[0, 0, 0, 1], [1, 0, 4, 2], [2, 0, 6, 1], [3, 0, 8, 1]],
+        buffers: vec![[7, 0, 1], [7, 2, 3]],
+        ..Plan::default()
+    }
+}

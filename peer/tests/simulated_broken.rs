@@ -1,0 +1,297 @@
+//! Broken plans, run without asking the check: the simulator notices.
+
+mod cases;
+
+use cases::{case_b, two_rows};
+use peer::generate::{shared_buffer, tiny};
+use peer::simulate::{
+    choices, edges, survey, unchecked, Claim, Clocks, Dial, Edge, Noticed, Report, Settings,
+    QUESTIONS,
+};
+use peer::{check, Plan, Rng};
+
+const SETTINGS: Settings = Settings {
+    seed: 1,
+    first_plan: 0,
+    plans: 150,
+};
+
+/// Dozens for each question. Half of them, and more, of those that guard
+/// against clocks go unnoticed while all clocks are equal.
+#[test]
+fn broken_plans_are_noticed() {
+    let survey = survey(&SETTINGS).unwrap_or_else(|failure| panic!("{failure}"));
+    println!("{survey:?}");
+    for (index, question) in QUESTIONS.into_iter().enumerate() {
+        let (by_a_tick, by_aim) = (survey.by_a_tick[index], survey.by_aim[index]);
+        for Noticed {
+            broken,
+            noticed,
+            harmless,
+            ..
+        } in [by_a_tick, by_aim]
+        {
+            assert_eq!(broken, noticed + harmless);
+            assert!(noticed >= 12 && (question == 24 || harmless == 0));
+        }
+        assert!(by_a_tick.noticed >= 36, "question {question}");
+        let unseen = by_a_tick.noticed - by_a_tick.with_equal_clocks;
+        assert_eq!(unseen > 0, [18, 20, 21].contains(&question));
+    }
+}
+
+/// All that is found on a plan, its clocks at most so far ahead.
+fn found(plan: &Plan, most_ahead: u32) -> Report {
+    unchecked(plan, &choices(plan, most_ahead, &mut Rng::new(1)))
+}
+
+/// A plan that would bear one tick more of P bears clocks of P + 1, and one
+/// that would not shows a violation.
+#[test]
+fn clocks_beyond_the_precision() {
+    let [mut tight, mut loose] = [0, 0];
+    for number in 0..200 {
+        let plan = tiny(&mut Rng::for_case(5, number));
+        let mut wider = plan.clone();
+        wider.precision += 1;
+        let bears = check(&wider.encode()).is_accepted();
+        let report = found(&plan, plan.precision + 1);
+        assert_eq!(report.violations.is_empty(), bears, "{plan:?}");
+        *(if bears { &mut loose } else { &mut tight }) += 1;
+    }
+    assert!(tight >= 100 && loose >= 5, "{tight} {loose}");
+}
+
+/// Case B and its two refusals, each seen with the clocks one way round only.
+#[test]
+fn case_b_with_each_choice_of_clocks() {
+    let ahead = |by: [u32; 2]| Clocks::from_fn(&case_b(), |node| by[node as usize]);
+    let all = [[0, 0], [0, 1], [1, 0], [1, 1]];
+    let broken = |plan: &Plan, claim: Claim| {
+        let report = |by: &[u32; 2]| unchecked(plan, &[ahead(*by)]);
+        let breaks = |by: &[u32; 2]| report(by).violations.keys().eq([&claim]);
+        let holds = |by: &[u32; 2]| report(by).violations.is_empty();
+        assert!(all.iter().all(|by| breaks(by) || holds(by)));
+        all.into_iter().filter(breaks).collect::<Vec<_>>()
+    };
+    assert_eq!(broken(&case_b(), Claim::Hold), [[0; 2]; 0]);
+    let mut late = case_b();
+    late.streams[0][2] = 12;
+    assert_eq!(broken(&late, Claim::Latency), [[1, 0]]);
+    let mut early = case_b();
+    early.pieces[1][2] = 9;
+    assert_eq!(broken(&early, Claim::Arrived), [[0, 1]]);
+}
+
+/// How often every lane has moved when a claim first fails.
+fn fails_after(plan: &Plan, claim: Claim) -> usize {
+    found(plan, plan.precision).violations[&claim].after
+}
+
+/// A claim fails as soon as what breaks it is shown, and not at the end of
+/// the cycle or of the run only.
+#[test]
+fn violations_show_at_once() {
+    let mut early = case_b();
+    early.pieces[1][2] = 9;
+    assert_eq!(fails_after(&early, Claim::Arrived), 10);
+    let mut late = case_b();
+    late.streams[0][2] = 12;
+    assert_eq!(fails_after(&late, Claim::Latency), 14);
+    let mut short = case_b();
+    short.pieces[0][3] = 3;
+    assert_eq!(fails_after(&short, Claim::Budget), 20);
+    for edge in edges_of(24, 60, shared_buffer) {
+        let Edge { kept, broken, .. } = edge;
+        let moved = |row: usize| kept.pieces[row][2].abs_diff(broken.pieces[row][2]) > 0;
+        let row = (0..broken.pieces.len())
+            .find(|row| moved(*row))
+            .expect("a piece has moved");
+        let [task, k, start, length] = broken.pieces[row];
+        let writes = broken.buffers.iter().any(|buffer| buffer[1] == task);
+        // A write begins a tick too soon, or its neighbour does when a read
+        // ends a tick late: either way one tick before a read is over.
+        let at = if writes { start } else { start + length - 1 };
+        assert_eq!(
+            fails_after(&broken, Claim::Hold),
+            at as usize + 1,
+            "{task} {k} {broken:?}"
+        );
+    }
+}
+
+/// The second write in the midst of the first hold, which is still open
+/// then, and in the last tick of it.
+#[test]
+fn holds_reach_as_far_as_shown() {
+    let answer = |plan: &Plan| check(&plan.encode()).number;
+    assert_eq!(answer(&two_rows()), 0);
+    assert!(found(&two_rows(), 0).violations.is_empty());
+    for (start, after, text) in [
+        (
+            2,
+            3,
+            "buffer row 0: held in moves 0..3, task 2 inside in move 2",
+        ),
+        (
+            5,
+            6,
+            "buffer row 0: held in moves 0..6, task 2 inside in move 5",
+        ),
+    ] {
+        let mut plan = two_rows();
+        plan.pieces[2][2] = start;
+        assert_eq!(answer(&plan), 24);
+        let violation = &found(&plan, 0).violations[&Claim::Hold];
+        assert_eq!((violation.after, violation.what.as_str()), (after, text));
+    }
+}
+
+type Change = fn(&mut Plan);
+
+/// What 'Runs' does not claim: masks, nodes, routes, and that a read starts
+/// when its write has ended.
+#[test]
+fn questions_that_no_run_shows() {
+    let unseen: [(u32, Plan, Change); 5] = [
+        (9, case_b(), |plan| plan.tasks[0][1] = 2),
+        (14, case_b(), |plan| plan.cores[1][0] = 0),
+        (17, case_b(), |plan| plan.links[0][1] = 2),
+        (22, two_rows(), |plan| {
+            plan.cores[1][0] = 4;
+            plan.buffers = vec![[7, 0, 3]];
+        }),
+        (23, two_rows(), |plan| {
+            plan.pieces[2][2] = 5;
+            plan.buffers = vec![[7, 1, 2]];
+        }),
+    ];
+    for (question, mut plan, change) in unseen {
+        change(&mut plan);
+        assert_eq!(check(&plan.encode()).number, question);
+        assert!(found(&plan, plan.precision).violations.is_empty());
+    }
+}
+
+/// Edges of one question, over so many plans of a shape.
+fn edges_of(question: u32, plans: u64, shape: fn(&mut Rng) -> Plan) -> Vec<Edge> {
+    let mut found = Vec::new();
+    for number in 0..plans {
+        let mut rng = Rng::for_case(6, number);
+        let plan = shape(&mut rng);
+        let edges = edges(&plan, &mut rng).into_iter();
+        found.extend(edges.filter(|edge| edge.question == question).take(3));
+    }
+    found
+}
+
+/// Misreading: P is added on the last hop only. What then passes is a plan
+/// without P in its hops, and it is late only between two clocks.
+#[test]
+fn misread_precision_on_the_last_hop() {
+    let mut met = 0;
+    for edge in edges_of(18, 100, tiny) {
+        let mut without = edge.broken.clone();
+        without.precision = 0;
+        if edge.broken.precision > 0 && check(&without.encode()).is_accepted() {
+            assert!(found(&edge.broken, 0).violations.is_empty());
+            assert!(found(&edge.broken, edge.broken.precision).has(Claim::Arrived));
+            met += 1;
+        }
+    }
+    assert!(met >= 40, "{met}");
+}
+
+/// A window of the piece's VCPU cut in two in the midst of the piece's work.
+fn cut_window(plan: &Plan, piece: usize) -> Option<Plan> {
+    let [task, _, start, length] = plan.pieces[piece];
+    let vcpu = plan.tasks[task as usize][0];
+    let cut = start + plan.task_switch(task) + 1;
+    let holds = |window: &[u32; 3]| {
+        window[0] == vcpu && (window[1]..window[1] + window[2]).contains(&start)
+    };
+    let window = plan.windows.iter().position(holds)?;
+    let [_, opens, open] = plan.windows[window];
+    let mut plan = plan.clone();
+    plan.windows[window] = [vcpu, opens, cut - opens];
+    plan.windows
+        .push([vcpu, cut, (opens + open).checked_sub(cut)?]);
+    (cut < start + length && check(&plan.encode()).number == 11).then_some(plan)
+}
+
+/// Misreading: a piece may span two adjoining windows. Where v is 0, every
+/// tick of its work lies in a window of its VCPU still, and no run is harmed.
+/// Else it works in the first v ticks of the second window.
+#[test]
+fn misread_windows() {
+    let [mut harmed, mut harmless] = [0, 0];
+    for number in 0..60 {
+        let plan = tiny(&mut Rng::for_case(7, number));
+        for (row, &[task, ..]) in plan.pieces.iter().enumerate() {
+            if let Some(broken) = cut_window(&plan, row) {
+                let report = found(&broken, broken.precision);
+                let v = plan.vcpu_switch(plan.tasks[task as usize][0]);
+                assert_eq!(report.has(Claim::Window), v > 0);
+                assert_eq!(report.violations.is_empty(), v == 0);
+                *(if v > 0 { &mut harmed } else { &mut harmless }) += 1;
+            }
+        }
+    }
+    assert!(harmed >= 40 && harmless >= 40, "{harmed} {harmless}");
+}
+
+/// The ticks of work of a piece that a lower piece of another job number
+/// hides, if there are two such on one core.
+fn hidden_work(plan: &Plan) -> Option<usize> {
+    let ticks = |row: usize| plan.pieces[row][2]..plan.pieces[row][2] + plan.pieces[row][3];
+    let core = |row: usize| plan.core_of_task(plan.pieces[row][0]);
+    let pairs = (0..plan.pieces.len()).flat_map(|high| (0..high).map(move |low| (low, high)));
+    let mut clashes = pairs.filter(|&(low, high)| {
+        let one_core = core(low) == core(high);
+        one_core && ticks(low).any(|tick| ticks(high).contains(&tick))
+    });
+    let (low, high) = clashes.next()?;
+    let [task, k, start, _] = plan.pieces[high];
+    let work = start + plan.task_switch(task);
+    let hidden = ticks(high).filter(|tick| *tick >= work && ticks(low).contains(tick));
+    (plan.pieces[low][1] != k && clashes.next().is_none()).then(|| hidden.count())
+}
+
+/// Misreading: pieces are compared within jobs of equal number. Of two that
+/// overlap, the higher row's loses its budget, unless only ticks of its task
+/// switch are hidden.
+#[test]
+fn misread_pieces_of_other_jobs() {
+    let [mut harmed, mut harmless] = [0, 0];
+    for edge in edges_of(12, 400, tiny) {
+        let is_moved = matches!(edge.dial, Dial::PieceStart(_));
+        if let Some(hidden) = hidden_work(&edge.broken).filter(|_| is_moved) {
+            let report = found(&edge.broken, 0);
+            assert_eq!(report.has(Claim::Budget), hidden > 0, "{:?}", edge.broken);
+            *(if hidden > 0 {
+                &mut harmed
+            } else {
+                &mut harmless
+            }) += 1;
+        }
+    }
+    assert!(harmed >= 40 && harmless >= 5, "{harmed} {harmless}");
+}
+
+/// Misreading: a hold ends when the write ends. What then passes has no two
+/// writes at once, but a write while another message is still to be read.
+#[test]
+fn misread_holds() {
+    let edges = edges_of(24, 60, shared_buffer);
+    for edge in &edges {
+        let plan = &edge.broken;
+        let writes = |piece: &&[u32; 4]| plan.buffers.iter().any(|row| row[1] == piece[0]);
+        let mut writes: Vec<&[u32; 4]> = plan.pieces.iter().filter(writes).collect();
+        writes.sort_by_key(|piece| piece[2]);
+        assert!(writes
+            .windows(2)
+            .all(|two| two[0][2] + two[0][3] <= two[1][2]));
+        assert!(found(plan, 0).violations.keys().eq([&Claim::Hold]));
+    }
+    assert!(edges.len() >= 40, "{}", edges.len());
+}

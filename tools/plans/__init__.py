@@ -1,0 +1,1 @@
+"""Tools for planners: plan images as text, listings and pictures."""

@@ -1,0 +1,133 @@
+"""The commands of tools/plan."""
+import argparse
+import os
+import sys
+from pathlib import Path
+
+from .answers import ask, explained, lines_of, parse
+from .files import as_text, is_text, load, load_image, read_bytes, write_whole
+from .image import encode
+from .listing import listing
+from .ordering import in_order
+from .picture.drawing import View, near, picture
+from .reading import read_text
+from .troubles import Trouble, meant, trouble
+from .writing import write_text
+
+
+CHECKER = os.environ.get("PLANCHECK") or str(Path(__file__).resolve().parents[2] / "target/bin/plancheck")
+
+
+def main(arguments):
+    """Runs one command; 0, or 1 where the input is bad (and nothing is written)."""
+    options = parser().parse_args(arguments)
+    try:
+        return options.run(options) or 0
+    except Trouble as bad:
+        print(bad, file=sys.stderr)
+        return 1
+    except BrokenPipeError:
+        os.dup2(os.open(os.devnull, os.O_WRONLY), sys.stdout.fileno())
+        return 0
+
+
+def parser():
+    top = argparse.ArgumentParser(prog="plan", description="Plans as text, image, listing and picture.")
+    commands = top.add_subparsers(required=True, metavar="COMMAND")
+    command = _command(commands, "image", run_image, "write the image of a text")
+    command.add_argument("plan", help="text")
+    command.add_argument("out", help="image to write, or -")
+    command = _command(commands, "text", run_text, "print a plan as text")
+    command.add_argument("plan", help="image or text")
+    command.add_argument("--in-order", action="store_true", help="with windows, pieces and frames by start")
+    command = _command(commands, "list", run_list, "print a plan's rows and what follows from them")
+    command.add_argument("plan", help="image or text")
+    command = _command(commands, "check", run_check, "ask the checker, and print its answer in words")
+    command.add_argument("plan", help="image or text")
+    _asks_checker(command, default=CHECKER)
+    command = _command(commands, "picture", run_picture, "draw a plan as SVG")
+    command.add_argument("plan", help="image or text")
+    command.add_argument("out", help="SVG to write, or -")
+    command.add_argument("--answer", type=an_answer, metavar="'N T R'", help="the checker's line, as printed")
+    _asks_checker(command, default=None)
+    command.add_argument("--from", dest="first", type=int, metavar="TICK", help="first tick to draw")
+    command.add_argument("--to", dest="last", type=int, metavar="TICK", help="where to stop drawing")
+    command.add_argument("--near", type=int, metavar="TICKS", help="draw what the answer names and so many ticks around it")
+    command.add_argument("--lanes", metavar="NAMES", help="draw only these cores and links, joined by commas")
+    command.add_argument("--width", type=int, metavar="PIXELS", help="width of the lanes")
+    return top
+
+
+def _command(commands, name, run, text):
+    command = commands.add_parser(name, help=text, description=text)
+    command.set_defaults(run=run)
+    return command
+
+
+def _asks_checker(command, default):
+    otherwise = "without it, $PLANCHECK, then target/bin/plancheck" if default else "without it, none"
+    command.add_argument("--plancheck", metavar="PATH", default=default, help=f"the checker to ask; {otherwise}")
+
+
+def an_answer(text):
+    return parse(text)
+
+
+def run_image(options):
+    data = read_bytes(options.plan)
+    if not is_text(data):
+        raise trouble(options.plan, "is no text" + (" but an image" if data else ": it is empty"))
+    write_whole(options.out, encode(read_text(options.plan, as_text(options.plan, data))))
+
+
+def run_text(options):
+    plan = load(options.plan)
+    print(write_text(in_order(plan) if options.in_order else plan), end="")
+
+
+def run_list(options):
+    print(listing(load(options.plan)), end="")
+
+
+def run_check(options):
+    """Prints the answer in words; an image that cannot be read has an answer too."""
+    data, plan = image_and_plan(options.plan)
+    answer = ask(options.plancheck, data)
+    print(explained(plan, answer))
+    for place in lines_of(plan, answer) if plan else ():
+        print(f"{place}: this row")
+    return 0 if answer.accepted else 1
+
+
+def image_and_plan(path):
+    """The bytes to check and the plan in them, or None where the image cannot be read."""
+    data = read_bytes(path)
+    if is_text(data):
+        plan = read_text(path, as_text(path, data))
+        return encode(plan), plan
+    try:
+        return data, load_image(path, data)
+    except Trouble:
+        return data, None
+
+
+def run_picture(options):
+    plan, answer = load(options.plan), options.answer
+    if options.plancheck and not answer:
+        answer = ask(options.plancheck, encode(plan))
+    drawn = picture(plan, Path(options.plan).stem, answer, view_of(options, plan, answer))
+    write_whole(options.out, drawn.encode())
+
+
+def view_of(options, plan, answer):
+    """The view that options ask for; lanes and ticks have to be there."""
+    names = options.lanes.split(",") if options.lanes else None
+    known = plan.names.all["core"] + plan.names.all["link"]
+    for name in names or ():
+        if name not in known:
+            raise trouble(options.plan, f"no core or link is named '{name}'" + meant(name, known))
+    around = near(plan, answer, options.near) if options.near is not None and answer else None
+    first, last = around or (options.first or 0, options.last)
+    if first < 0 or last is not None and last <= first:
+        raise trouble(options.plan, f"no ticks from {first} to {last}")
+    return View(first, last, names, options.width)

@@ -1,0 +1,153 @@
+"""Listings: every table by name with what follows from the rows, then jobs, messages and holds.
+
+A '!' stands behind what cannot be so in an accepted plan; the checker has the last word.
+"""
+from .aligned import aligned
+from .meaning import Meaning
+from .schema import TABLES
+from .writing import shown_values
+
+
+def listing(plan):
+    meaning = Meaning(plan)
+    counts = ", ".join(f"{len(plan.rows[table.kind])} {table.kind}" for table in TABLES)
+    parts = [f"cycle {plan.cycle}, precision {plan.precision}; rows: {counts}"]
+    parts += [table_part(plan, meaning, table) for table in TABLES if plan.rows[table.kind]]
+    for title, header, lines in (jobs(plan, meaning), messages(plan, meaning), holds(plan, meaning)):
+        if lines:
+            parts.append(part(title, header, lines))
+    return "\n\n".join(parts) + "\n"
+
+
+def part(title, header, lines):
+    """A titled table; columns of numbers stand flush right."""
+    right = {number for number, column in enumerate(zip(*lines)) if all(_numeric(value) for value in column)}
+    return "\n".join([title, *("  " + line for line in aligned([header, *lines], right))])
+
+
+def _numeric(value):
+    return str(value).rstrip(" !").lstrip("-").isdigit() or value in ("", "-")
+
+
+def flagged(value, wrong):
+    return f"{value} !" if wrong else str(value)
+
+
+def shown(value):
+    return "-" if value is None else value
+
+
+def span(start, end):
+    return f"{start}..{end}"
+
+
+def slack(later, earlier):
+    """later less earlier, flagged below 0; '-' where one of them is not known."""
+    if later is None or earlier is None:
+        return "-"
+    return flagged(later - earlier, later < earlier)
+
+
+def table_part(plan, meaning, table):
+    extra = EXTRAS.get(table.kind, {})
+    lines = []
+    for number, record in enumerate(plan.rows[table.kind]):
+        derived = [shown(derive(plan, meaning, number)) for derive in extra.values()]
+        lines.append([number, plan.name(table.kind, number), *shown_values(table, record, plan.names), *derived])
+    return part(f"table {TABLES.index(table) + 1}: {table.kind}", ["row", "name", *table.keys, *extra], lines)
+
+
+def _core_name(plan, core):
+    return None if core is None else plan.name("core", core)
+
+
+def _usable(plan, meaning, number):
+    window = plan.rows["window"][number]
+    return span(window.start + meaning.window_charge(number), window.start + window.length)
+
+
+def _work(plan, meaning, number):
+    piece = plan.rows["piece"][number]
+    return span(piece.start + meaning.piece_charge(piece.task), piece.start + piece.length)
+
+
+def _frame_end(plan, meaning, number):
+    return plan.rows["frame"][number].start + meaning.frame_ticks(number)
+
+
+# What a listing adds to a table's columns: header and how it follows from plan, meaning and row number.
+EXTRAS = {
+    "task": {
+        "core": lambda plan, meaning, number: _core_name(plan, meaning.core_of_task(number)),
+        "jobs": lambda plan, meaning, number: meaning.job_count(number),
+    },
+    "window": {
+        "core": lambda plan, meaning, number: _core_name(plan, meaning.core_of_window(number)),
+        "after switch": _usable,
+    },
+    "piece": {
+        "core": lambda plan, meaning, number: _core_name(plan, meaning.core_of_piece(number)),
+        "work": _work,
+    },
+    "frame": {"end": _frame_end},
+}
+
+
+def jobs(plan, meaning):
+    """Each job with its pieces: ticks against C + n×d, and slack to the due tick."""
+    header = ["task", "job", "release..due", "ticks", "C+n×d", "slack", "pieces"]
+    lines = []
+    for task in range(len(plan.rows["task"])):
+        for job in meaning.jobs(task):
+            lines.append([plan.name("task", task), *_job_words(plan, job)])
+        missing, first = meaning.missing_jobs(task)
+        if missing:
+            lines.append([plan.name("task", task), first, "", "0 !", "", "", f"no piece in {missing} jobs, first job {first}"])
+    return "jobs", header, lines
+
+
+def _job_words(plan, job):
+    pieces = [plan.rows["piece"][piece] for piece in job.pieces]
+    spans = " ".join(span(piece.start, piece.start + piece.length) for piece in pieces)
+    ticks = flagged(job.ticks, job.ticks != job.owed)
+    return [job.number, span(job.release, job.due), ticks, job.owed, slack(job.due, job.last), spans]
+
+
+def messages(plan, meaning):
+    """Each message step by step: from when it may start, when it does, and the slack between."""
+    header = ["stream", "job", "step", "ready", "start", "end", "slack"]
+    lines = []
+    for stream in range(len(plan.rows["stream"])):
+        for message in meaning.messages(stream):
+            name = plan.name("stream", stream)
+            lines += [[name, message.job, *line] for line in _message_lines(plan, message)]
+    return "messages (ready: the step before has ended or arrived, delay and P counted)", header, lines
+
+
+def _message_lines(plan, message):
+    yield _end_line(plan, "sender", message.sender, message.sender and message.sender.release)
+    for step in message.steps:
+        link = plan.name("link", plan.rows["frame"][step.frame].link)
+        title = f"hop {step.hop} {plan.name('frame', step.frame)} on {link}"
+        yield [title, shown(step.ready), step.start, step.end, slack(step.start, step.ready)]
+    yield _end_line(plan, "receiver", message.receiver, message.ready)
+    yield [f"latency {shown(message.latency)} of {message.limit}", "", "", "", slack(message.limit, message.latency)]
+
+
+def _end_line(plan, role, job, ready):
+    if job is None or not job.pieces:
+        return [f"{role} has no piece", "", "", "", "-"]
+    return [f"{role} {plan.name('task', job.task)}", shown(ready), job.first, job.last, slack(job.first, ready)]
+
+
+def holds(plan, meaning):
+    """Each buffer's holds by start: the ticks it was free before, and those from the write's end to the read."""
+    header = ["buffer", "node", "row", "job", "writer", "reader", "hold", "free before", "read after write"]
+    lines, ends = [], {}
+    for hold in meaning.holds():
+        row, buffer = plan.rows["buffer"][hold.row], (hold.node, hold.number)
+        tasks = [plan.name("task", row.writer), plan.name("task", row.reader)]
+        gaps = [slack(hold.start, ends.get(buffer, 0)), slack(hold.read, hold.written)]
+        lines.append([hold.number, hold.node, plan.name("buffer", hold.row), hold.job, *tasks, span(hold.start, hold.end), *gaps])
+        ends[buffer] = max(ends.get(buffer, 0), hold.end)
+    return "holds", header, lines

@@ -1,0 +1,199 @@
+"""What rows mean: jobs, charges, frame lengths, messages and holds, by the plan paper's words.
+
+Any readable plan can be asked, also one that breaks questions: what a missing row would tell is None, and jobs without
+a piece have no first start and last end.
+"""
+from collections import defaultdict
+from dataclasses import dataclass
+
+
+@dataclass(frozen=True)
+class Job:
+    """A job of a task; pieces are row numbers by start."""
+
+    task: int
+    number: int
+    release: int
+    due: int
+    pieces: tuple
+    first: int
+    last: int
+    ticks: int
+    owed: int
+
+
+@dataclass(frozen=True)
+class Step:
+    """A hop of a message: its frame row, when it may start, when it does, and when all clocks see it arrived."""
+
+    hop: int
+    frame: int
+    ready: int
+    start: int
+    end: int
+    arrival: int
+
+
+@dataclass(frozen=True)
+class Message:
+    """A stream's job; sender and receiver are jobs or None."""
+
+    stream: int
+    job: int
+    sender: Job
+    receiver: Job
+    steps: tuple
+    ready: int
+    latency: int
+    limit: int
+
+
+@dataclass(frozen=True)
+class Hold:
+    """The ticks in which a buffer row has the buffer, a number on one node; when its write ends and its read starts."""
+
+    row: int
+    number: int
+    node: int
+    job: int
+    start: int
+    end: int
+    written: int
+    read: int
+
+
+class Meaning:
+    """The plan's rows read together."""
+
+    def __init__(self, plan):
+        self.plan = plan
+        self.pieces = self._group("piece", lambda piece: (piece.task, piece.job), lambda piece: piece.start)
+        self.frames = self._group("frame", lambda frame: (frame.stream, frame.job), lambda frame: (frame.hop, frame.start))
+        self.jobs_with_pieces = _second_by_first(self.pieces)
+        self.jobs_with_frames = _second_by_first(self.frames)
+
+    def _group(self, kind, key, order):
+        rows, groups = self.plan.rows[kind], defaultdict(list)
+        for number in sorted(range(len(rows)), key=lambda number: order(rows[number])):
+            groups[key(rows[number])].append(number)
+        return groups
+
+    def core_of_vcpu(self, vcpu):
+        row = self.plan.row("vcpu", vcpu)
+        return row.core if row and self.plan.row("core", row.core) else None
+
+    def core_of_task(self, task):
+        row = self.plan.row("task", task)
+        return self.core_of_vcpu(row.vcpu) if row else None
+
+    def node_of_task(self, task):
+        core = self.core_of_task(task)
+        return None if core is None else self.plan.rows["core"][core].node
+
+    def core_of_window(self, window):
+        return self.core_of_vcpu(self.plan.rows["window"][window].vcpu)
+
+    def core_of_piece(self, piece):
+        return self.core_of_task(self.plan.rows["piece"][piece].task)
+
+    def link_of_frame(self, frame):
+        link = self.plan.rows["frame"][frame].link
+        return link if self.plan.row("link", link) else None
+
+    def window_charge(self, window):
+        """The VCPU switch ticks at a window's start."""
+        core = self.core_of_window(window)
+        return 0 if core is None else self.plan.rows["core"][core].v
+
+    def piece_charge(self, task):
+        """The task switch ticks at the start of each of the task's pieces."""
+        core = self.core_of_task(task)
+        return 0 if core is None else self.plan.rows["core"][core].d
+
+    def frame_ticks(self, frame):
+        """The ticks a frame takes on its link."""
+        stream = self.plan.row("stream", self.plan.rows["frame"][frame].stream)
+        return stream.wire if stream else 0
+
+    def job_count(self, task):
+        """H/T, rounded down; 0 for a task that is not there."""
+        row = self.plan.row("task", task)
+        return self.plan.cycle // row.period if row and row.period else 0
+
+    def job(self, task, number):
+        """The job, or None if its task does not exist."""
+        row = self.plan.row("task", task)
+        if row is None:
+            return None
+        rows = self.pieces.get((task, number), ())
+        pieces = [self.plan.rows["piece"][piece] for piece in rows]
+        release = number * row.period
+        return Job(
+            task,
+            number,
+            release,
+            release + row.deadline,
+            tuple(rows),
+            min((piece.start for piece in pieces), default=None),
+            max((piece.start + piece.length for piece in pieces), default=None),
+            sum(piece.length for piece in pieces),
+            row.budget + len(pieces) * self.piece_charge(task),
+        )
+
+    def jobs(self, task):
+        """The task's jobs that have pieces, by number."""
+        return [self.job(task, number) for number in sorted(self.jobs_with_pieces[task])]
+
+    def missing_jobs(self, task):
+        """How many of the task's jobs have no piece, and the first of them."""
+        count, present = self.job_count(task), self.jobs_with_pieces[task]
+        missing = count - sum(number < count for number in present)
+        first = next(number for number in range(count) if number not in present) if missing else None
+        return missing, first
+
+    def messages(self, stream):
+        """The stream's messages: each job that has a frame, or pieces of sender and receiver."""
+        row = self.plan.rows["stream"][stream]
+        jobs = self.jobs_with_frames[stream] | (self.jobs_with_pieces[row.sender] & self.jobs_with_pieces[row.receiver])
+        return [self._message(stream, row, number) for number in sorted(jobs)]
+
+    def _message(self, stream, row, number):
+        sender, receiver = self.job(row.sender, number), self.job(row.receiver, number)
+        steps, ready = [], sender.last if sender else None
+        for frame in self.frames.get((stream, number), ()):
+            steps.append(self._step(frame, ready))
+            ready = steps[-1].arrival
+        latency = None
+        if sender and receiver and sender.pieces and receiver.pieces:
+            latency = receiver.last - sender.first + self.plan.precision
+        return Message(stream, number, sender, receiver, tuple(steps), ready, latency, self.latency_limit(row))
+
+    def _step(self, number, ready):
+        frame = self.plan.rows["frame"][number]
+        link = self.plan.row("link", frame.link)
+        end = frame.start + self.frame_ticks(number)
+        arrival = end + (link.delay if link else 0) + self.plan.precision
+        return Step(frame.hop, number, ready, frame.start, end, arrival)
+
+    def latency_limit(self, stream):
+        """E, or what an E of 0 stands for."""
+        sender = self.plan.row("task", stream.sender)
+        return stream.latency or (sender.period if sender else 0)
+
+    def holds(self):
+        """All holds, by buffer and start."""
+        found = []
+        for number, row in enumerate(self.plan.rows["buffer"]):
+            node = self.node_of_task(row.writer)
+            for job in self.jobs_with_pieces[row.writer] & self.jobs_with_pieces[row.reader]:
+                writer, reader = self.job(row.writer, job), self.job(row.reader, job)
+                if node is not None and reader:
+                    found.append(Hold(number, row.number, node, job, writer.first, reader.last, writer.last, reader.first))
+        return sorted(found, key=lambda hold: (hold.node, hold.number, hold.start, hold.row))
+
+
+def _second_by_first(keys):
+    seconds = defaultdict(set)
+    for first, second in keys:
+        seconds[first].add(second)
+    return seconds

@@ -1,0 +1,98 @@
+"""Messages as arrows: sender's last end, each hop's frame, receiver's first start."""
+from .style import fitting
+
+MANY = 250  # arrows; more are drawn faint and without heads
+
+
+def draw_arrows(scene):
+    """Marked arrows last."""
+    lines = [line for stream in range(len(scene.plan.rows["stream"])) for line in stream_lines(scene, stream)]
+    lines = [line for line in lines if _in_view(scene.scale, line[1])]
+    for marked, ends, title in sorted(lines, key=lambda line: line[0]):
+        _draw_arrow(scene, marked, ends, title, len(lines) > MANY)
+
+
+def _in_view(scale, ends):
+    (one, _), (other, _) = ends
+    return min(one, other) <= scale.last and max(one, other) >= scale.first
+
+
+def _draw_arrow(scene, marked, ends, title, faint):
+    """A line, cut at the edges of the view, with a head where its end is in view."""
+    look = "am" if marked else "a faint" if faint else "a"
+    head = "amh" if marked else "ah"
+    inside = scene.scale.first <= ends[1][0] <= scene.scale.last
+    more = {"marker_end": f"url(#{head})"} if inside and (marked or not faint) else {}
+    (x1, y1), (x2, y2) = (_point(scene.scale, ends, end) for end in ends)
+    scene.svg.line(look, x1, y1, x2, y2, title, **more)
+    scene.marks_drawn += marked
+
+
+def _point(scale, ends, end):
+    """Where a line between two (tick, y) is at one of them, or at the edge of the view before that."""
+    (tick, y), ((left, y1), (right, y2)) = end, sorted(ends)
+    seen = min(max(tick, scale.first), scale.last)
+    return scale.x(seen), y if seen == tick else y1 + (y2 - y1) * (seen - left) / (right - left)
+
+
+def stream_lines(scene, stream):
+    """Arrows as (marked, ((tick, y), (tick, y)), title)."""
+    marked, name = scene.marks.has("stream", stream), scene.plan.name("stream", stream)
+    for message in scene.meaning.messages(stream):
+        title = f"{name} job {message.job}"
+        stops = [stop for stop in _stops(scene, message) if stop]
+        for (_, leaves, lane), (arrives, _, other) in zip(stops, stops[1:]):
+            yield marked, _ends(leaves, lane, arrives, other), title
+
+
+def _ends(leaves, lane, arrives, other):
+    """From the near edge of one lane's block to the near edge of the other's."""
+    down = lane.top <= other.top
+    start = lane.travel if lane.kind == "link" else (lane.block() + lane.block_height if down else lane.block())
+    end = other.block() if down else other.block() + other.block_height
+    return (leaves, start), (arrives, end)
+
+
+def _stops(scene, message):
+    """(first tick, tick from which the next may start, lane) of sender, hops and receiver."""
+    yield _job_stop(scene, message.sender)
+    for step in message.steps:
+        lane = scene.lanes.get("link", scene.meaning.link_of_frame(step.frame))
+        yield lane and (step.start, step.arrival, lane)
+    yield _job_stop(scene, message.receiver)
+
+
+def _job_stop(scene, job):
+    lane = scene.lanes.get("core", scene.meaning.core_of_task(job.task)) if job and job.pieces else None
+    return lane and (job.first, job.last, lane)
+
+
+def draw_travels(scene):
+    """Behind each frame its link's delay, and P dotted."""
+    scale, precision = scene.scale, scene.plan.precision
+    for number, frame in enumerate(scene.plan.rows["frame"]):
+        lane, link = scene.lanes.get("link", frame.link), scene.plan.row("link", frame.link)
+        end = frame.start + scene.meaning.frame_ticks(number)
+        if lane and link and scale.shows(end, end + link.delay + precision):
+            there, y = end + link.delay, lane.travel
+            scene.svg.line("delay", scale.x(end), y, scale.x(there), y)
+            scene.svg.line("p-wait", scale.x(there), y, scale.x(there + precision), y)
+
+
+def draw_marked_jobs(scene):
+    """Release to due tick of the marked jobs, below their core's lane."""
+    for task, number in sorted(scene.marked_jobs()):
+        lane, job = scene.lanes.get("core", scene.meaning.core_of_task(task)), scene.meaning.job(task, number)
+        if lane and job and scene.scale.shows(job.release, job.due):
+            _draw_job(scene, lane, job)
+
+
+def _draw_job(scene, lane, job):
+    left, right, y = scene.scale.x(job.release), scene.scale.x(job.due), lane.top + lane.track_height + 4
+    scene.svg.path("job", f"M{left:.1f} {y - 3}v6m0 -3H{right:.1f}m0 -3v6")
+    name = f"{scene.plan.name('task', job.task)}.{job.number}"
+    ticks = f"{name}: {job.ticks} of {job.owed} ticks"
+    long = f"{name}: release {job.release}, due {job.due}, {job.ticks} of {job.owed} ticks"
+    label = fitting(right - left, long, ticks, name, str(job.number))
+    scene.svg.text("small", left + 4, y + 11, label)
+    scene.marks_drawn += 1

@@ -1,0 +1,32 @@
+"""The questions in short, by number, as the plan paper asks them."""
+
+QUESTIONS = {
+    1: "is the image's length in bounds?",
+    2: "is the last word the length less the trailer's?",
+    3: "are row counts in bounds, and do the tables lie without gaps?",
+    4: "is H 1 to 1,000,000 and P at most 10,000?",
+    5: "does each row number in the row name an existing row?",
+    6: "are the row's values in range?",
+    7: "is the window longer than its core's v, and does it end by H?",
+    8: "do windows on one core never overlap?",
+    9: "does the task's mask allow its VCPU's core?",
+    10: "is k below H/T, the piece longer than d, and between release and due tick?",
+    11: "does the piece lie in one window of its VCPU, after that window's first v ticks?",
+    12: "do pieces on one core never overlap?",
+    13: "do each job's n pieces sum to C + n×d?",
+    14: "have sender and receiver equal periods and different nodes?",
+    15: "is k below H/T, the hop below the stream's hops, and the frame in its job's period?",
+    16: "has each job and hop of the stream exactly one frame?",
+    17: "do each job's hops lead from the sender's node to the receiver's?",
+    18: "does the frame start no sooner than the previous hop's end + delay + P?",
+    19: "do frames on one link never overlap?",
+    20: "does hop 0 start after the sender's last end, and the receiver after the last hop's end + delay + P?",
+    21: "is receiver's last end less sender's first start, plus P, at most E?",
+    22: "have writer and reader equal periods and one node?",
+    23: "does each reader job start no sooner than the writer job ends?",
+    24: "do holds of one buffer never overlap between rows?",
+}
+
+
+def wording(number):
+    return QUESTIONS.get(number, "not known to this tool")

@@ -1,0 +1,143 @@
+"""The command line: exit statuses, and that bad input leaves nothing behind."""
+import io
+import os
+import subprocess
+import sys
+import tempfile
+import unittest
+from collections import namedtuple
+from contextlib import redirect_stderr, redirect_stdout
+from pathlib import Path
+
+from support import CASE_A, EXAMPLES, TOOLS
+
+from plans.commands import main
+
+Ran = namedtuple("Ran", "returncode stdout stderr")
+
+
+def run(*arguments):
+    """What a call of the command gives, without a process of its own."""
+    out, err = io.StringIO(), io.StringIO()
+    with redirect_stdout(out), redirect_stderr(err):
+        try:
+            status = main([str(argument) for argument in arguments])
+        except SystemExit as left:
+            status = left.code
+    return Ran(status, out.getvalue(), err.getvalue())
+
+
+class Commands(unittest.TestCase):
+    def setUp(self):
+        folder = tempfile.TemporaryDirectory()
+        self.addCleanup(folder.cleanup)
+        self.folder = Path(folder.name)
+
+    def put(self, name, content):
+        path = self.folder / name
+        path.write_bytes(content if isinstance(content, bytes) else content.encode())
+        return path
+
+    def files(self):
+        return sorted(path.name for path in self.folder.iterdir())
+
+    def program(self, line):
+        """A checker that always prints this line."""
+        path = self.put("checker", f"#!/bin/sh\ncat > /dev/null\necho {line}\n")
+        os.chmod(path, 0o755)
+        return path
+
+    def test_the_command_itself(self):
+        command = [sys.executable, TOOLS / "plan", "image", EXAMPLES / "case-a.txt", "-"]
+        ran = subprocess.run(command, capture_output=True, check=True)
+        self.assertEqual(ran.stdout, (EXAMPLES / "case-a.image").read_bytes())
+
+    def test_image(self):
+        text, out = self.put("a.txt", CASE_A), self.folder / "a.image"
+        self.assertEqual(run("image", text, out).returncode, 0)
+        self.assertEqual(out.read_bytes(), (EXAMPLES / "case-a.image").read_bytes())
+        self.assertEqual(self.files(), ["a.image", "a.txt"])
+
+    def test_bad_text_writes_no_image(self):
+        text, out = self.put("a.txt", CASE_A + "task\n"), self.folder / "a.image"
+        ran = run("image", text, out)
+        self.assertEqual((ran.returncode, self.files()), (1, ["a.txt"]))
+        self.assertTrue(ran.stderr.startswith(f"{text}:7: task lacks vcpu"), ran.stderr)
+
+    def test_bad_text_leaves_the_old_image(self):
+        text, out = self.put("a.txt", "plan"), self.put("a.image", b"old")
+        self.assertEqual(run("image", text, out).returncode, 1)
+        self.assertEqual(out.read_bytes(), b"old")
+
+    def test_output_that_cannot_be_written(self):
+        text, out = self.put("a.txt", CASE_A), self.folder / "taken"
+        out.mkdir()
+        ran = run("image", text, out)
+        self.assertEqual((ran.returncode, self.files()), (1, ["a.txt", "taken"]))
+        self.assertIn("cannot be written", ran.stderr)
+
+    def test_input_that_cannot_be_read(self):
+        ran = run("text", self.folder / "none.image")
+        self.assertEqual(ran.returncode, 1)
+        self.assertIn("none.image: cannot be read", ran.stderr)
+
+    def test_broken_layouts_are_told(self):
+        for name, number in (("q01-empty", 1), ("q02-last-word", 2), ("q03-gap", 3)):
+            ran = run("text", EXAMPLES / f"{name}.image")
+            self.assertEqual((ran.returncode, ran.stdout), (1, ""))
+            self.assertIn(f"{name}.image: no readable image (question {number})", ran.stderr)
+
+    def test_no_text(self):
+        ran = run("list", self.put("a.txt", b"plan cycle=1\ncore caf\xe9 node=0 d=0 v=0\n"))
+        self.assertIn("a.txt: line 2 is not UTF-8", ran.stderr)
+
+    def test_an_image_is_no_text(self):
+        ran = run("image", EXAMPLES / "case-a.image", self.folder / "out.image")
+        self.assertEqual((ran.returncode, self.files()), (1, []))
+        self.assertIn("case-a.image: is no text but an image", ran.stderr)
+
+    def test_check_tells_where_a_row_was_changed(self):
+        ran = run("check", EXAMPLES / "q18-hop-too-soon.txt", "--plancheck", self.program("18 8 1"))
+        lines = [line.rsplit("/", 1)[-1] for line in ran.stdout.splitlines()[1:]]
+        self.assertEqual(lines, ["two-hops.txt:10: this row", "q18-hop-too-soon.txt:6: this row"])
+
+    def test_check(self):
+        text = self.put("a.txt", CASE_A)
+        ran = run("check", text, "--plancheck", self.program("0 0 0"))
+        self.assertEqual((ran.returncode, ran.stdout), (0, "accepted (0 0 0)\n"))
+        ran = run("check", text, "--plancheck", self.program("13 3 0"))
+        self.assertEqual(ran.returncode, 1)
+        self.assertIn("at task decode; no to question 13", ran.stdout)
+        self.assertIn(f"{text}:4: this row", ran.stdout)
+
+    def test_checker_without_an_answer(self):
+        ran = run("check", self.put("a.txt", CASE_A), "--plancheck", self.program("hello"))
+        self.assertEqual(ran.returncode, 1)
+        self.assertIn("gives no answer", ran.stderr)
+
+    def test_check_of_an_unreadable_image(self):
+        ran = run("check", EXAMPLES / "q02-last-word.image", "--plancheck", self.program("2 0 0"))
+        self.assertIn("refused (2 0 0); no to question 2", ran.stdout)
+
+    def test_picture(self):
+        out = self.folder / "a.svg"
+        self.assertEqual(run("picture", self.put("a.txt", CASE_A), out, "--answer", "13 3 0").returncode, 0)
+        self.assertIn("refused (13 3 0) at task decode", out.read_text())
+
+    def test_picture_of_what_is_not_there(self):
+        text, out = self.put("a.txt", CASE_A), self.folder / "a.svg"
+        for options, message in (
+            (["--lanes", "scaner"], "no core or link is named 'scaner' (did you mean scanner?)"),
+            (["--from", "9", "--to", "9"], "no ticks from 9 to 9"),
+        ):
+            ran = run("picture", text, out, *options)
+            self.assertEqual((ran.returncode, out.exists()), (1, False))
+            self.assertIn(message, ran.stderr)
+
+    def test_usage(self):
+        self.assertEqual(run().returncode, 2)
+        self.assertEqual(run("picture", "a", "b", "--answer", "1 2").returncode, 2)
+
+
+if __name__ == "__main__":
+    unittest.main()

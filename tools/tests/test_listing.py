@@ -1,0 +1,55 @@
+"""Listings: sums, slack and holds."""
+import unittest
+
+from support import EXAMPLES
+
+from plans.files import load
+from plans.listing import listing
+
+
+def words(name):
+    """The lines of an example's listing as lists of words."""
+    return [line.split() for line in listing(load(EXAMPLES / f"{name}.txt")).splitlines()]
+
+
+class Listings(unittest.TestCase):
+    def test_rows_by_name(self):
+        lines = words("case-b")
+        self.assertIn(["1", "sort", "reads", "near,far", "20", "3", "20", "far", "1"], lines)
+        self.assertIn(["0", "piece0", "scan", "0", "2..6", "near", "3..6"], lines)
+
+    def test_job_sums(self):
+        self.assertIn(["decode", "0", "0..1500", "520", "520", "200", "760..1000", "1020..1300"], words("tunnel"))
+        self.assertIn(["decode", "0", "0..8", "3", "!", "4", "3", "2..5"], words("q13-a-tick-short"))
+
+    def test_jobs_without_a_piece(self):
+        self.assertIn(["decode", "1", "0", "!", "no", "piece", "in", "1", "jobs,", "first", "job", "1"], words_of_two_jobs())
+
+    def test_messages(self):
+        lines = words("case-b")
+        self.assertIn(["labels", "0", "hop", "0", "frame0", "on", "cable", "6", "6", "8", "0"], lines)
+        self.assertIn(["labels", "0", "receiver", "sort", "10", "10", "14", "0"], lines)
+        self.assertIn(["labels", "0", "latency", "13", "of", "13", "0"], lines)
+
+    def test_default_latency(self):
+        self.assertIn(["labels", "0", "latency", "22", "of", "20", "-2", "!"], words("q21-default-latency"))
+
+    def test_slack_below_zero_is_flagged(self):
+        self.assertIn(["labels", "0", "receiver", "sort", "10", "9", "13", "-1", "!"], words("case-b-early"))
+        self.assertIn(["labels", "0", "latency", "13", "of", "12", "-1", "!"], words("case-b-late"))
+
+    def test_holds(self):
+        self.assertIn(["0", "0", "totals", "0", "count", "report", "12..22", "0", "1"], words("shared-buffer"))
+        self.assertIn(["0", "2", "scans", "1", "decode", "send", "2760..3525", "-125", "!", "0"], words("q24-second-scan"))
+        self.assertIn(["0", "0", "scans", "0", "decode", "send", "2..11", "2", "-1", "!"], words("q23-read-too-soon"))
+
+
+def words_of_two_jobs():
+    from plans.reading import read_text
+
+    text = (EXAMPLES / "case-a.txt").read_text().replace("cycle=10", "cycle=20")
+    return [line.split() for line in listing(read_text("p.txt", text)).splitlines()]
+
+
+if __name__ == "__main__":
+    unittest.main()

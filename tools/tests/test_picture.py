@@ -1,0 +1,174 @@
+"""Pictures: well formed, and the refused row stands out."""
+import re
+import unittest
+from xml.etree import ElementTree
+
+from support import CASE_A, EXAMPLES, SHAPES, generated
+
+from plans.answers import Answer, explained, parse
+from plans.files import load
+from plans.image import decode
+from plans.picture.drawing import View, near, picture
+from plans.picture.style import MARK, TINTS, WINDOW_TINTS
+from plans.reading import read_text
+
+SVG = "{http://www.w3.org/2000/svg}"
+
+
+def drawn(plan, answer=None, view=None):
+    """The elements of a picture after its style and definitions."""
+    root = ElementTree.fromstring(picture(plan, "plan <&> name", answer, view))
+    return [element for element in root if element.tag not in (SVG + "style", SVG + "defs")]
+
+
+def marked(elements):
+    """The titles of marked shapes, the legend's apart."""
+    shapes = [element for element in elements if {"m", "am"} & set(element.get("class", "").split())]
+    return sorted(shape.find(SVG + "title").text for shape in shapes if shape.find(SVG + "title") is not None)
+
+
+def texts(elements):
+    return [element.text for element in elements if element.tag == SVG + "text"]
+
+
+def example(name):
+    plan = load(EXAMPLES / f"{name}.txt")
+    return plan, parse((EXAMPLES / f"{name}.lines").read_text().splitlines()[0])
+
+
+class Pictures(unittest.TestCase):
+    def test_well_formed(self):
+        for shape in SHAPES:
+            self.assertGreater(len(drawn(decode(generated(shape)))), 3, shape)
+
+    def test_every_example_tells_its_answer(self):
+        for path in sorted(EXAMPLES.glob("*.lines")):
+            plan, answer = example(path.stem)
+            title = " ".join(texts(drawn(plan, answer)))
+            self.assertIn("accepted" if answer.accepted else f"refused ({answer})", title)
+
+    def test_all_refused_rows_are_seen(self):
+        """Each example whose answer names a row has marked shapes; accepted plans have none."""
+        for path in sorted(EXAMPLES.glob("*.lines")):
+            plan, answer = example(path.stem)
+            self.assertEqual(bool(marked(drawn(plan, answer))), answer.kind is not None, path.stem)
+
+    def test_case_a(self):
+        elements = drawn(read_text("p.txt", CASE_A))
+        titles = [element.find(SVG + "title").text for element in elements if element.find(SVG + "title") is not None]
+        self.assertEqual(titles, ["window0 of guest: 0..10, VCPU switch 2", "piece0: decode job 0, 2..6, task switch 1"])
+        self.assertIn("decode.0", texts(elements))
+        blocks = [element for element in elements if element.get("class", "").startswith("p ") and len(element)]
+        (piece,) = blocks
+        self.assertAlmostEqual(float(piece.get("width")), 0.4 * 900)
+
+
+class Marks(unittest.TestCase):
+    def expect(self, name, *beginnings):
+        plan, answer = example(name)
+        found = marked(drawn(plan, answer))
+        self.assertEqual([title.split(":")[0] for title in found], list(beginnings))
+
+    def test_rows_with_blocks_of_their_own(self):
+        self.expect("q07-short-window", "window0 of guest")
+        self.expect("q12-pieces-overlap", "piece1")
+        self.expect("q18-hop-too-soon", "frame1")
+
+    def test_a_tasks_pieces(self):
+        self.expect("q13-a-tick-short", "piece0")
+
+    def test_a_streams_frames_and_arrows(self):
+        self.expect("q20-sent-too-soon", "frame0", "labels job 0", "labels job 0")
+
+    def test_a_buffers_holds(self):
+        self.expect("q24-second-scan", "totals (buffer 0, node 2), job 0")
+
+    def test_rows_on_no_lane(self):
+        self.expect("q05-no-such-vcpu", "window0 of 1")
+
+    def test_a_core_and_its_windows(self):
+        plan = read_text("p.txt", CASE_A)
+        self.assertEqual(len(marked(drawn(plan, Answer(6, 1, 0)))), 2)
+
+    def test_a_row_out_of_view_is_pointed_at(self):
+        plan, answer = example("q12-pieces-overlap")
+        self.assertIn("5..8", texts(drawn(plan, answer, View(0, 3))))
+        self.assertNotIn("5..8", texts(drawn(plan, answer)))
+
+    def test_a_row_without_a_picture_is_told(self):
+        plan, answer = read_text("p.txt", CASE_A + "vcpu next core=3\n"), Answer(5, 2, 1)
+        self.assertIn("nothing of the refused row", " ".join(texts(drawn(plan, answer))))
+        self.assertNotIn("nothing of the refused row", " ".join(texts(drawn(plan, Answer(5, 2, 0)))))
+
+
+class Views(unittest.TestCase):
+    def test_only_ticks_in_view(self):
+        plan = load(EXAMPLES / "tunnel.txt")
+        labels = texts(drawn(plan, view=View(2000, 4000)))
+        self.assertIn("shoot.1", labels)
+        self.assertNotIn("shoot.0", labels)
+
+    def test_shapes_lie_beside_the_labels(self):
+        elements = drawn(load(EXAMPLES / "tunnel.txt"), view=View(700, 1300))
+        lanes = [element for element in elements if element.get("class") == "lane"]
+        left, width = float(lanes[0].get("x")), float(lanes[0].get("width"))
+        blocks = [element for element in elements if element.tag == SVG + "rect" and len(element)]
+        self.assertEqual(len(blocks), 5)
+        for block in blocks:
+            self.assertGreaterEqual(float(block.get("x")), left)
+            self.assertLessEqual(float(block.get("x")) + float(block.get("width")), left + width + 0.2)
+
+    def test_only_lanes_named(self):
+        plan = load(EXAMPLES / "tunnel.txt")
+        labels = texts(drawn(plan, view=View(lanes=["eye", "up"])))
+        self.assertIn("eye · node 0", labels)
+        self.assertNotIn("brain · node 2", labels)
+
+    def test_near_the_refused_row(self):
+        plan, answer = example("q12-pieces-overlap")
+        self.assertEqual(near(plan, answer, 2), (3, 10))
+
+    def test_labels_lie_in_the_picture(self):
+        for shape in ("full", "busy", "rich"):
+            root = ElementTree.fromstring(picture(decode(generated(shape)), shape))
+            for text in root.iter(SVG + "text"):
+                self.assertLessEqual(float(text.get("x")), float(root.get("width")))
+                self.assertLessEqual(float(text.get("y")), float(root.get("height")))
+
+    def test_labels_of_a_lane_do_not_overlap(self):
+        """Centred labels at one height stand apart, by the width that letters are taken to have."""
+        root = ElementTree.fromstring(picture(decode(generated("full")), "full", None, View(0, 6000)))
+        rows = {}
+        for text in root.iter(SVG + "text"):
+            if re.match("mid", text.get("class")):
+                rows.setdefault(text.get("y"), []).append((float(text.get("x")), len(text.text) * 9 * 0.5))
+        self.assertGreater(len(rows), 10)
+        for labels in rows.values():
+            labels.sort()
+            for (x, width), (other, other_width) in zip(labels, labels[1:]):
+                self.assertLessEqual(x + width / 2, other - other_width / 2 + 0.1)
+
+
+def luminance(colour):
+    """The relative luminance of #rrggbb."""
+    parts = [int(colour[at:at + 2], 16) / 255 for at in (1, 3, 5)]
+    red, green, blue = [part / 12.92 if part <= 0.04045 else ((part + 0.055) / 1.055) ** 2.4 for part in parts]
+    return 0.2126 * red + 0.7152 * green + 0.0722 * blue
+
+
+class Colours(unittest.TestCase):
+    def test_marks_stand_out_without_colour(self):
+        """Dark against every light tint, by the contrast of lightness alone."""
+        for tint in TINTS + WINDOW_TINTS:
+            self.assertGreater((luminance(tint) + 0.05) / (luminance(MARK) + 0.05), 4, tint)
+
+
+class Words(unittest.TestCase):
+    def test_answers_in_words(self):
+        plan, answer = example("q13-a-tick-short")
+        expected = "refused (13 3 0) at task decode; no to question 13: do each job's n pieces sum to C + n×d?"
+        self.assertEqual(explained(plan, answer), expected)
+
+
+if __name__ == "__main__":
+    unittest.main()

@@ -1,0 +1,115 @@
+"""Image to text and back gives the same bytes, whatever the checker would say; broken layouts are told."""
+import unittest
+
+from support import EXAMPLES, SHAPES, generated
+
+from plans.answers import Answer
+from plans.files import load
+from plans.image import decode, encode
+from plans.listing import listing
+from plans.ordering import in_order
+from plans.picture.drawing import picture
+from plans.reading import read_text
+from plans.schema import TABLES
+from plans.troubles import BadValue
+from plans.writing import write_text
+
+MUTANTS = 200
+
+
+def again(image):
+    """The image of the text of an image."""
+    return encode(read_text("again.txt", write_text(decode(image))))
+
+
+def readable(image):
+    """Questions 1 to 3 by their words, apart from the tool's own reading."""
+    word = lambda at: int.from_bytes(image[at:at + 4], "little")
+    if not 84 <= len(image) <= 63956 or word(len(image) - 4) != len(image) - 84:
+        return False
+    at, trailer = 0, len(image) - 84
+    widths, bounds = (3, 1, 5, 3, 4, 3, 5, 5, 3), (32, 64, 256, 1024, 2048, 64, 64, 512, 64)
+    for table in range(9):
+        offset, rows = word(trailer + 8 + 8 * table), word(trailer + 12 + 8 * table)
+        if offset != at or rows > bounds[table] or rows < (table == 0):
+            return False
+        at += 4 * rows * widths[table]
+    return at == trailer
+
+
+class RoundTrips(unittest.TestCase):
+    def test_shapes(self):
+        for shape in SHAPES:
+            self.assertEqual(again(generated(shape)), generated(shape), shape)
+
+    def test_full_has_every_table_full(self):
+        plan = decode(generated("full"))
+        self.assertEqual([len(plan.rows[table.kind]) for table in TABLES], [table.most for table in TABLES])
+
+    def test_mutants(self):
+        """Each mutant comes back, or is told apart as unreadable exactly where questions 1 to 3 fail."""
+        counts = {True: 0, False: 0}
+        for seed in range(MUTANTS):
+            image = generated("mutant", seed)
+            counts[readable(image)] += 1
+            if readable(image):
+                self.assertEqual(again(image), image, f"mutant {seed}")
+            else:
+                self.assertRaisesRegex(BadValue, r"question [123]\)", decode, image)
+        self.assertGreater(min(counts.values()), 10, counts)
+
+    def test_examples(self):
+        images = {path: path.read_bytes() for path in EXAMPLES.glob("*.image")}
+        self.assertGreater(len(images), 24)
+        for path, image in images.items():
+            self.assertEqual(encode(load(path.with_suffix(".txt"))), image, path.stem)
+            if readable(image):
+                self.assertEqual(again(image), image, path.stem)
+
+    def test_images_of_no_whole_words(self):
+        """A byte too much in front of the trailer, the last word set right."""
+        image = generated("small")
+        trailer = len(image) - 84
+        longer = image[:trailer] + b"\0" + image[trailer:-4] + (trailer + 1).to_bytes(4, "little")
+        self.assertFalse(readable(longer))
+        self.assertRaisesRegex(BadValue, "question 3", decode, longer)
+
+    def test_in_order(self):
+        """The same rows, rising; tables whose rows others name stay as they are."""
+        plan = decode(generated("full"))
+        ordered = in_order(plan)
+        for table in TABLES:
+            rows, before = ordered.rows[table.kind], plan.rows[table.kind]
+            if table.kind in ("window", "piece", "frame"):
+                keys = [(row.start, *row) for row in rows]
+                self.assertEqual((keys, sorted(rows)), (sorted(keys), sorted(before)))
+                self.assertNotEqual(rows, before)
+            else:
+                self.assertEqual(rows, before)
+
+    def test_highest_words(self):
+        image = encode(decode(generated("small")))
+        trailer = len(image) - 84
+        highest = b"\xff" * trailer + image[trailer:]
+        self.assertEqual(again(highest), highest)
+
+    def test_any_plan_can_be_listed_and_drawn(self):
+        """Listing and picture stand values that break questions, whatever row an answer names."""
+        for seed in range(0, MUTANTS, 5):
+            image = generated("mutant", seed)
+            if readable(image):
+                plan = decode(image)
+                self.assertIn("cycle", listing(plan))
+                self.assertIn("</svg>", picture(plan, f"mutant {seed}", Answer(6, seed // 5 % len(TABLES) + 1, seed // 50)))
+
+    def test_rows_of_no_row_can_be_drawn(self):
+        """Every word is one that names no row and lies past the cycle."""
+        image = generated("rich")
+        plan = decode(b"\xff" * (len(image) - 84) + image[-84:])
+        for table in range(1, len(TABLES) + 1):
+            self.assertIn("</svg>", picture(plan, "no rows", Answer(5, table, 0)))
+        self.assertIn("4294967295", listing(plan))
+
+
+if __name__ == "__main__":
+    unittest.main()
