@@ -109,6 +109,7 @@ fn run(input: &[u8]) -> Result<(), Difference> {
     let answer = run.pair.check(lent.part())?;
     let room = usize::from(run.choices.room);
     run.build(lent.part(), u32::from(run.choices.lane), room)?;
+    run.build_all(lent.part(), room)?;
     if answer == 0 {
         run.accepted(lent.part())?;
     }
@@ -132,6 +133,13 @@ impl Run<'_> {
         let mut words = Lent::noise(room, &mut self.rng);
         self.pair.build(image, lane, &mut words)?;
         Ok(words)
+    }
+
+    /// Builds all lanes into so many bytes of noise.
+    fn build_all(&mut self, image: &[u8], room: usize) -> Result<(), Difference> {
+        let mut words = Lent::noise(room, &mut self.rng);
+        self.pair.build_all(image, &mut words)?;
+        Ok(())
     }
 
     /// Steps the tail's state and the row of states at the end of the input over the image's bytes, whatever they are.
@@ -159,6 +167,7 @@ impl Run<'_> {
             let built = self.build(image, lane, 4 * table.len())?;
             words.extend_from_slice(built.part());
         }
+        self.build_all(image, words.len().saturating_add_signed(spare))?;
         self.walk(&words, &firsts)?;
         self.step_at(&words, firsts[chosen])
     }

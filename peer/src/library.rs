@@ -11,12 +11,7 @@ extern "C" {
         words: *mut u8,
         words_len: usize,
     ) -> u64;
-    fn rd_build_all(
-        image: *const u8,
-        image_len: usize,
-        words: *mut u8,
-        words_len: usize,
-    ) -> u64;
+    fn rd_build_all(image: *const u8, image_len: usize, words: *mut u8, words_len: usize) -> u64;
     fn rd_start(cycle: u64, first: u32, state: *mut u8, state_len: usize) -> u32;
     fn rd_step(words: *const u8, words_len: usize, state: *mut u8, state_len: usize) -> u32;
     fn rd_step_all(words: *const u8, words_len: usize, states: *mut u8, states_len: usize) -> u32;

@@ -50,7 +50,8 @@ mod ops {
             if !self.tables.is_empty() {
                 ops.push(self.op("ours", "build of each lane", || self.build(&Library)));
                 ops.push(self.op("peer", "build of each lane", || self.build(&Peer)));
-                ops.push(self.op("peer", "all lanes after one check", || {
+                ops.push(self.op("ours", "build of all lanes", || self.build_all()));
+                ops.push(self.op("peer", "build of all lanes", || {
                     assert!(tables(&self.image).is_ok());
                 }));
                 self.add_steps(&mut ops);
@@ -78,6 +79,11 @@ mod ops {
                 let answer = of.build(&self.image, lane, &mut words[..4 * table.len()]);
                 assert_eq!(answer, 0);
             }
+        }
+
+        fn build_all(&self) {
+            let mut words = vec![0; self.words.len()];
+            assert_eq!(Library.build_all(&self.image, &mut words), 0);
         }
 
         /// Steps of lane 0 and of all lanes. The library's are over bytes, the peer's over words, as it has them.

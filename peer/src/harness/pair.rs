@@ -119,7 +119,10 @@ impl<'a> Pair<'a> {
         let length = words.part().len();
         Err(Difference {
             case: 0,
-            call: format!("build of all lanes into {length} bytes, image {}", hex(image)),
+            call: format!(
+                "build of all lanes into {length} bytes, image {}",
+                hex(image)
+            ),
             ours: outcome(&answer(ours), words),
             theirs: outcome(&answer(theirs), &other),
         })
