@@ -4,6 +4,7 @@
 //! taken in 64 bits, where no words of 32 bits can make them wrap.
 
 use crate::answer::Answer;
+use crate::charges::charges;
 use crate::image::{
     word_at, Plan, Trailer, BUFFER, CORE, FRAME, LINK, LONGEST, PIECE, ROW_BOUNDS, STREAM, TASK,
     TRAILER, VCPU, WIDTHS, WINDOW, WORD,
@@ -26,9 +27,10 @@ pub fn examine(image: &[u8]) -> Result<Plan, Answer> {
     let plan = Plan::decode(image);
     ask_references(&plan)?;
     ask_ranges(&plan)?;
-    ask_windows(&plan)?;
+    let charges = charges(&plan);
+    ask_windows(&plan, &charges)?;
     ask_masks(&plan)?;
-    ask_pieces(&plan)?;
+    ask_pieces(&plan, &charges)?;
     let jobs = Jobs::of(&plan)?;
     ask_streams(&plan, &jobs)?;
     ask_buffers(&plan, &jobs)?;
@@ -137,9 +139,10 @@ fn ask_ranges(plan: &Plan) -> Result<(), Answer> {
 }
 
 /// Questions 7 and 8.
-fn ask_windows(plan: &Plan) -> Result<(), Answer> {
-    ask(7, WINDOW, &plan.windows, |&[vcpu, start, length]| {
-        length > plan.vcpu_switch(vcpu) && wide(start) + wide(length) <= wide(plan.cycle)
+fn ask_windows(plan: &Plan, charges: &[u32]) -> Result<(), Answer> {
+    let charged: Vec<_> = plan.windows.iter().zip(charges).collect();
+    ask(7, WINDOW, &charged, |&(&[_, start, length], &charge)| {
+        length > charge && wide(start) + wide(length) <= wide(plan.cycle)
     })?;
     let on_cores = |(row, &[vcpu, start, length]): (usize, &[u32; 3])| Interval {
         place: plan.core_of_vcpu(vcpu),
@@ -159,12 +162,11 @@ fn ask_masks(plan: &Plan) -> Result<(), Answer> {
 }
 
 /// Questions 10 to 12.
-fn ask_pieces(plan: &Plan) -> Result<(), Answer> {
+fn ask_pieces(plan: &Plan, charges: &[u32]) -> Result<(), Answer> {
     ask(10, PIECE, &plan.pieces, |piece| piece_in_job(plan, piece))?;
-    let windows = VcpuWindows::of(plan);
+    let windows = VcpuWindows::of(plan, charges);
     ask(11, PIECE, &plan.pieces, |&[task, _, start, length]| {
-        let vcpu = plan.tasks[task as usize][0];
-        windows.hold(vcpu, plan.vcpu_switch(vcpu), start, start + length)
+        windows.hold(plan.tasks[task as usize][0], start, start + length)
     })?;
     let on_cores = |(row, &[task, _, start, length]): (usize, &[u32; 4])| Interval {
         place: plan.core_of_task(task),
@@ -189,32 +191,45 @@ fn piece_in_job(plan: &Plan, &[task, k, start, length]: &[u32; 4]) -> bool {
 struct VcpuWindows {
     /// Where each VCPU's windows begin, and where the last one's end.
     begins: Vec<usize>,
-    /// VCPU, start, end
-    windows: Vec<(u32, u32, u32)>,
+    windows: Vec<VcpuWindow>,
+}
+
+/// One of them.
+struct VcpuWindow {
+    vcpu: u32,
+    opens: u32,
+    /// The first tick after the VCPU switch.
+    free: u32,
+    closes: u32,
 }
 
 impl VcpuWindows {
-    fn of(plan: &Plan) -> VcpuWindows {
-        let window = |&[vcpu, start, length]: &[u32; 3]| (vcpu, start, start + length);
-        let mut windows: Vec<_> = plan.windows.iter().map(window).collect();
-        windows.sort_unstable();
+    fn of(plan: &Plan, charges: &[u32]) -> VcpuWindows {
+        let window = |(&[vcpu, start, length], &charge): (&[u32; 3], &u32)| VcpuWindow {
+            vcpu,
+            opens: start,
+            free: start + charge,
+            closes: start + length,
+        };
+        let mut windows: Vec<_> = plan.windows.iter().zip(charges).map(window).collect();
+        windows.sort_unstable_by_key(|window| (window.vcpu, window.opens));
         let vcpus = 0..=plan.vcpus.len() as u32;
-        let begin = |vcpu| windows.partition_point(|&(owner, _, _)| owner < vcpu);
+        let begin = |vcpu| windows.partition_point(|window| window.vcpu < vcpu);
         VcpuWindows {
             begins: vcpus.map(begin).collect(),
             windows,
         }
     }
 
-    /// Whether one window of the VCPU holds these ticks after its first
-    /// `switch` ticks. Only the last to start by `start` can hold them.
-    fn hold(&self, vcpu: u32, switch: u32, start: u32, end: u32) -> bool {
+    /// Whether one window of the VCPU holds these ticks after its switch.
+    /// Only the last to start by `start` can hold them.
+    fn hold(&self, vcpu: u32, start: u32, end: u32) -> bool {
         let vcpu = vcpu as usize;
         let windows = &self.windows[self.begins[vcpu]..self.begins[vcpu + 1]];
-        let started = windows.partition_point(|&(_, opens, _)| opens <= start);
+        let started = windows.partition_point(|window| window.opens <= start);
         windows[..started]
             .last()
-            .is_some_and(|&(_, opens, closes)| opens + switch <= start && end <= closes)
+            .is_some_and(|window| window.free <= start && end <= window.closes)
     }
 }
 

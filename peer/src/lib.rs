@@ -5,6 +5,7 @@
 mod answer;
 mod arguments;
 pub mod boundary;
+mod charges;
 mod check;
 mod dispatch;
 pub mod generate;

@@ -154,13 +154,16 @@ impl Image<'_> {
         self.cell(TASK, task, 4)
     }
     fn window_core(&self, window: Number) -> Number {
-        self.vcpu_core(self.cell(WINDOW, window, 0))
+        self.vcpu_core(self.window_vcpu(window))
     }
     fn window_start(&self, window: Number) -> Number {
         self.cell(WINDOW, window, 1)
     }
     fn window_length(&self, window: Number) -> Number {
         self.cell(WINDOW, window, 2)
+    }
+    fn window_vcpu(&self, window: Number) -> Number {
+        self.cell(WINDOW, window, 0)
     }
     fn window_end(&self, window: Number) -> Number {
         self.window_start(window) + self.window_length(window)
@@ -240,6 +243,27 @@ impl Image<'_> {
 impl Image<'_> {
     fn jobs(&self, task: Number) -> Number {
         self.cycle() / self.period(task)
+    }
+
+    /// Whether the window begins at the tick where another of the same VCPU
+    /// ends.
+    fn continues(&self, window: Number) -> bool {
+        (0..self.rows(WINDOW)).any(|another| {
+            another != window
+                && self.window_vcpu(another) == self.window_vcpu(window)
+                && self.window_end(another) == self.window_start(window)
+        })
+    }
+
+    /// The ticks of a window that its VCPU switch takes.
+    fn charge(&self, window: Number) -> Number {
+        if self.window_start(window) == 0 {
+            return self.v(self.window_core(window));
+        }
+        if self.continues(window) {
+            return 0;
+        }
+        self.v(self.window_core(window))
     }
 
     fn pieces_of(&self, task: Number, job: Number) -> Vec<Number> {
@@ -381,8 +405,7 @@ impl Image<'_> {
     }
 
     fn window_fits(&self, window: Number) -> bool {
-        self.window_length(window) > self.v(self.window_core(window))
-            && self.window_end(window) <= self.cycle()
+        self.window_length(window) > self.charge(window) && self.window_end(window) <= self.cycle()
     }
 
     fn windows_clash(&self, low: Number, high: Number) -> bool {
@@ -412,11 +435,11 @@ impl Image<'_> {
 
     fn piece_in_window(&self, piece: Number) -> bool {
         let vcpu = self.task_vcpu(self.piece_task(piece));
-        let v = self.v(self.vcpu_core(vcpu));
         (0..self.rows(WINDOW)).any(|window| {
-            self.cell(WINDOW, window, 0) == vcpu
-                && self.window_start(window) + v <= self.piece_start(piece)
+            self.window_vcpu(window) == vcpu
+                && self.window_start(window) <= self.piece_start(piece)
                 && self.piece_end(piece) <= self.window_end(window)
+                && self.window_start(window) + self.charge(window) <= self.piece_start(piece)
         })
     }
 
@@ -589,7 +612,11 @@ impl Image<'_> {
         for window in 0..self.rows(WINDOW) {
             let start = self.window_start(window);
             if self.window_core(window) == core && start <= tick && tick < self.window_end(window) {
-                let kind = if tick < start + self.v(core) { 1 } else { 2 };
+                let kind = if tick < start + self.charge(window) {
+                    1
+                } else {
+                    2
+                };
                 return (kind, window);
             }
         }

@@ -1,6 +1,7 @@
 //! Dispatch tables: questions 25 and 26, and the entries of each lane.
 
 use crate::answer::Answer;
+use crate::charges::charges;
 use crate::check::examine;
 use crate::image::Plan;
 
@@ -26,15 +27,17 @@ pub fn build(image: &[u8], lane: u32, words: &mut [u32]) -> Answer {
 /// The entries of every lane of an accepted image, lanes rising.
 pub fn lanes(image: &[u8]) -> Result<Vec<Vec<Entry>>, Answer> {
     let plan = examine(image)?;
-    let lanes = 0..plan.lanes();
-    Ok(lanes.map(|lane| lane_entries(&plan, lane)).collect())
+    let charges = charges(&plan);
+    let entries = |lane| lane_entries(&plan, &charges, lane);
+    Ok((0..plan.lanes()).map(entries).collect())
 }
 
 /// The words of every lane's table of an accepted image, lanes rising.
 pub fn tables(image: &[u8]) -> Result<Vec<Vec<u32>>, Answer> {
     let plan = examine(image)?;
+    let charges = charges(&plan);
     let table = |lane| {
-        let entries = lane_entries(&plan, lane);
+        let entries = lane_entries(&plan, &charges, lane);
         let head = [plan.cycle, entries.len() as u32];
         [&head, entries.as_flattened()].concat()
     };
@@ -47,7 +50,7 @@ fn try_build(image: &[u8], lane: u32, words: &mut [u32]) -> Result<(), Answer> {
     if lane >= plan.lanes() {
         return Err(Answer::plain(25));
     }
-    let entries = lane_entries(&plan, lane);
+    let entries = lane_entries(&plan, &charges(&plan), lane);
     match words.get_mut(..2 + 3 * entries.len()) {
         None => Err(Answer::plain(26)),
         Some(table) => {
@@ -59,9 +62,9 @@ fn try_build(image: &[u8], lane: u32, words: &mut [u32]) -> Result<(), Answer> {
     }
 }
 
-fn lane_entries(plan: &Plan, lane: usize) -> Vec<Entry> {
+fn lane_entries(plan: &Plan, charges: &[u32], lane: usize) -> Vec<Entry> {
     match lane.checked_sub(plan.cores.len()) {
-        None => core_entries(plan, lane as u32),
+        None => core_entries(plan, charges, lane as u32),
         Some(link) => link_entries(plan, link as u32),
     }
 }
@@ -92,14 +95,14 @@ impl Lane {
 /// What occupies a lane: start, end and row.
 type Stretch = (u32, u32, u32);
 
-fn core_entries(plan: &Plan, core: u32) -> Vec<Entry> {
-    let [_, d, v] = plan.cores[core as usize];
+fn core_entries(plan: &Plan, charges: &[u32], core: u32) -> Vec<Entry> {
+    let [_, d, _] = plan.cores[core as usize];
     let pieces = core_pieces(plan, core);
     let mut pieces = pieces.iter().peekable();
     let mut lane = Lane::new();
     for (opens, closes, window) in core_windows(plan, core) {
         lane.show(opens, IDLE, 0);
-        lane.show(opens + v, VCPU_SWITCH, window);
+        lane.show(opens + charges[window as usize], VCPU_SWITCH, window);
         while let Some(&(start, end, piece)) = pieces.next_if(|piece| piece.0 < closes) {
             lane.show(start, SPARE, window);
             lane.show(start + d, TASK_SWITCH, piece);

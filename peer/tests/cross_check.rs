@@ -1,6 +1,6 @@
 //! The fast implementation against its naive twin on thousands of images.
 
-use peer::generate::{busy_core, full, medium, rich, small, small_rich, unit_periods};
+use peer::generate::{busy_core, full, kept_core, medium, rich, small, small_rich, unit_periods};
 use peer::mutate::{mutant, mutate};
 use peer::{build, check, naive, step, step_all, Answer, Plan, Rng, State};
 
@@ -112,10 +112,10 @@ fn shaken_plans() {
     let mut refusals = [0; 25];
     for case in 0..8_000 {
         let mut rng = Rng::for_case(13, case);
-        let mut plan = if rng.chance(70) {
-            rich(&mut rng)
-        } else {
-            small(&mut rng)
+        let mut plan = match rng.below(10) {
+            0 | 1 => kept_core(&mut rng),
+            2 | 3 => small(&mut rng),
+            _ => rich(&mut rng),
         };
         let shaken = |value: &mut u32, rng: &mut Rng| {
             let step = rng.pick(&[1, 1, 2, 5]);
@@ -223,6 +223,9 @@ fn compare_tables(plan: &Plan) {
 fn tables_by_events_and_by_ticks() {
     for case in 0..400 {
         compare_tables(&small(&mut Rng::for_case(14, case)));
+    }
+    for case in 0..400 {
+        compare_tables(&kept_core(&mut Rng::for_case(19, case)));
     }
     for case in 0..10 {
         compare_tables(&medium(&mut Rng::for_case(15, case)));

@@ -1,7 +1,8 @@
 //! The generator's plans are accepted, and its shapes are what they say.
 
 use peer::generate::{
-    accepted, bare, busy_core, full, large, medium, rich, shared_buffer, small, tiny, unit_periods,
+    accepted, bare, busy_core, cut_window, full, kept_core, large, medium, rich, shared_buffer,
+    small, tiny, unit_periods,
 };
 use peer::{check, Answer, Plan, Rng};
 
@@ -24,6 +25,7 @@ fn every_shape_is_accepted() {
     all_accepted(2_000, small);
     all_accepted(2_000, tiny);
     all_accepted(500, shared_buffer);
+    all_accepted(2_000, kept_core);
     all_accepted(500, medium);
     all_accepted(500, rich);
     all_accepted(100, large);
@@ -36,6 +38,23 @@ fn full_plans_have_every_row() {
     let plan = full(&mut Rng::new(3));
     assert_eq!(plan.counts(), [32, 64, 256, 1024, 2048, 64, 64, 512, 64]);
     assert_eq!(plan.encode().len(), 63_956);
+}
+
+/// An accepted plan stays one, however often its windows are cut where no
+/// piece runs on.
+#[test]
+fn cut_windows_change_no_answer() {
+    let mut cuts = 0;
+    for seed in 0..500 {
+        let mut rng = Rng::for_case(4, seed);
+        let mut plan = accepted(&mut rng);
+        for _ in 0..8 {
+            let has_room = plan.windows.len() < 1_024;
+            cuts += usize::from(has_room && cut_window(&mut plan, &mut rng).is_some());
+        }
+        assert_eq!(check(&plan.encode()), Answer::ACCEPTED, "{plan:?}");
+    }
+    assert!(cuts > 1_500, "{cuts}");
 }
 
 #[test]
@@ -91,6 +110,87 @@ fn shapes_are_many() {
     all_met(accepted, 20, &features);
 }
 
+/// The windows of VCPUs whose switch takes time: how often one before them
+/// decides on what they pay.
+#[test]
+fn windows_pay_or_do_not() {
+    let features: [(&str, Feature); 9] = [
+        ("adjoining windows of one VCPU", |plan| {
+            any_window(plan, continues)
+        }),
+        ("a run of three", |plan| {
+            any_window(plan, |plan, row| {
+                predecessor(plan, row).is_some_and(|before| continues(plan, before))
+            })
+        }),
+        ("adjoining windows of two VCPUs", |plan| {
+            adjoining(plan, false)
+        }),
+        ("a window of at most v ticks", |plan| {
+            any_window(plan, |plan, row| {
+                plan.windows[row][2] <= plan.vcpu_switch(plan.windows[row][0])
+            })
+        }),
+        ("a window at tick 0", |plan| {
+            any_window(plan, |plan, row| plan.windows[row][1] == 0)
+        }),
+        ("the same, another ends with the cycle", |plan| {
+            any_window(plan, |plan, row| {
+                let [vcpu, start, _] = plan.windows[row];
+                let ends = |&[owner, begin, length]: &[u32; 3]| {
+                    owner == vcpu && begin > 0 && begin + length == plan.cycle
+                };
+                start == 0 && plan.windows.iter().any(ends)
+            })
+        }),
+        ("a piece at the first tick", |plan| {
+            any_window(plan, |plan, row| {
+                continues(plan, row) && piece_starts(plan, row, 0)
+            })
+        }),
+        ("a piece in the first v ticks", |plan| {
+            any_window(plan, |plan, row| {
+                let v = plan.vcpu_switch(plan.windows[row][0]);
+                continues(plan, row) && (0..v).any(|tick| piece_starts(plan, row, tick))
+            })
+        }),
+        ("a piece right after v ticks that are paid", |plan| {
+            any_window(plan, |plan, row| {
+                let v = plan.vcpu_switch(plan.windows[row][0]);
+                !continues(plan, row) && piece_starts(plan, row, v)
+            })
+        }),
+    ];
+    all_met(accepted, 60, &features);
+    all_met(kept_core, 300, &features);
+    all_met(tiny, 60, &features);
+}
+
+/// Whether it holds for a window of a VCPU whose switch takes time.
+fn any_window(plan: &Plan, holds: fn(&Plan, usize) -> bool) -> bool {
+    let pays = |row: &usize| plan.vcpu_switch(plan.windows[*row][0]) > 0;
+    let mut rows = (0..plan.windows.len()).filter(pays);
+    rows.any(|row| holds(plan, row))
+}
+
+fn predecessor(plan: &Plan, row: usize) -> Option<usize> {
+    let [vcpu, start, _] = plan.windows[row];
+    let ends_there = |other: &[u32; 3]| other[0] == vcpu && other[1] + other[2] == start;
+    plan.windows.iter().position(ends_there)
+}
+
+fn continues(plan: &Plan, row: usize) -> bool {
+    predecessor(plan, row).is_some()
+}
+
+/// Whether a piece of the window's VCPU starts so many ticks after it does.
+fn piece_starts(plan: &Plan, row: usize, after: u32) -> bool {
+    let [vcpu, start, _] = plan.windows[row];
+    let owner = |task: u32| plan.tasks[task as usize][0];
+    let mut pieces = plan.pieces.iter();
+    pieces.any(|piece| owner(piece[0]) == vcpu && piece[2] == start + after)
+}
+
 #[test]
 fn tiny_plans_are_dense() {
     let features: [(&str, Feature); 13] = [
@@ -118,6 +218,7 @@ fn tiny_plans_are_dense() {
     let short: Feature = |plan| plan.cycle <= 60;
     all_met(tiny, 2_000, &[("at most 60 ticks", short)]);
     all_met(shared_buffer, 2_000, &[("at most 60 ticks", short)]);
+    all_met(kept_core, 2_000, &[("at most 60 ticks", short)]);
 }
 
 fn has_hops(plan: &Plan, hops: u32) -> bool {

@@ -241,3 +241,67 @@ fn no_piece_spans_adjoining_windows() {
     plan.windows = vec![[0, 0, 5], [0, 5, 5]];
     expect(&plan.encode(), 11, 5, 0);
 }
+
+/// Case A with a second VCPU on the core and these windows; D is T.
+fn a_with(windows: &[[u32; 3]], start: u32) -> Plan {
+    let mut plan = case_a();
+    plan.vcpus.push([0]);
+    plan.tasks[0][4] = 10;
+    plan.windows = windows.to_vec();
+    plan.pieces[0][2] = start;
+    plan
+}
+
+#[track_caller]
+fn expect_with(windows: &[[u32; 3]], start: u32, number: u32, table: u32, row: u32) {
+    expect(&a_with(windows, start).encode(), number, table, row);
+}
+
+/// Request 1: a VCPU that keeps its core pays no switch.
+#[test]
+fn windows_that_continue_pay_nothing() {
+    expect_with(&[[0, 0, 3], [0, 3, 7]], 3, 0, 0, 0);
+    expect_with(&[[0, 3, 7], [0, 0, 3]], 3, 0, 0, 0);
+    expect_with(&[[0, 0, 3], [0, 4, 6]], 4, 11, 5, 0);
+    expect_with(&[[0, 0, 3], [0, 4, 6]], 6, 0, 0, 0);
+    expect_with(&[[1, 0, 3], [0, 3, 7]], 3, 11, 5, 0);
+    expect_with(&[[1, 0, 3], [0, 3, 7]], 4, 11, 5, 0);
+    expect_with(&[[1, 0, 3], [0, 3, 7]], 5, 0, 0, 0);
+    expect_with(&[[0, 0, 6], [0, 6, 2], [0, 8, 1]], 2, 0, 0, 0);
+    expect_with(&[[0, 0, 6], [1, 6, 2]], 2, 7, 4, 1);
+    expect_with(&[[0, 0, 6], [0, 7, 2]], 2, 7, 4, 1);
+    expect_with(&[[0, 0, 6], [1, 6, 3]], 2, 0, 0, 0);
+}
+
+#[test]
+fn windows_at_tick_0_always_pay() {
+    expect_with(&[[0, 0, 2], [0, 2, 8]], 2, 7, 4, 0);
+    expect_with(&[[0, 0, 6], [0, 6, 4]], 0, 11, 5, 0);
+    expect_with(&[[0, 0, 6], [0, 6, 4]], 1, 11, 5, 0);
+    expect_with(&[[0, 0, 6], [0, 6, 4]], 2, 0, 0, 0);
+    expect_with(&[[0, 0, 0], [0, 0, 2]], 2, 7, 4, 0);
+    expect_with(&[[0, 0, 2], [0, 0, 0]], 2, 7, 4, 0);
+}
+
+/// Question 7 asks of windows that overlap, are empty or do not end.
+#[test]
+fn windows_continue_whatever_the_other_is() {
+    expect_with(&[[0, 3, 2], [0, 3, 0]], 2, 7, 4, 1);
+    expect_with(&[[0, 3, 0], [0, 3, 0]], 2, 7, 4, 0);
+    expect_with(&[[0, 3, 1], [0, 0, 3], [0, 3, 1]], 3, 8, 4, 2);
+    expect_with(&[[0, 3, 2], [0, 4, u32::MAX]], 2, 7, 4, 0);
+    expect_with(&[[0, 5, 2], [0, 0, 5], [0, 6, 9]], 2, 7, 4, 2);
+}
+
+#[test]
+fn windows_that_continue_show_no_switch() {
+    let text = report(&a_with(&[[0, 0, 3], [0, 3, 5], [1, 8, 2]], 3).encode());
+    assert_eq!(text, "7 4 2\n");
+    let text = report(&a_with(&[[0, 0, 3], [0, 3, 4], [1, 7, 3]], 3).encode());
+    let lines = ["0 0 0", "0 0 1 0", "0 2 2 0", "0 3 3 0", "0 4 4 0"];
+    let more = ["0 7 1 2", "0 9 2 2"];
+    assert_eq!(text, [&lines[..], &more, &[""]].concat().join("\n"));
+    let text = report(&a_with(&[[0, 6, 4], [0, 5, 1], [0, 0, 5]], 6).encode());
+    let lines = ["0 0 0", "0 0 1 2", "0 2 2 2", "0 5 2 1", "0 6 3 0"];
+    assert_eq!(text, [&lines[..], &["0 7 4 0", ""]].concat().join("\n"));
+}

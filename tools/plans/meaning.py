@@ -68,6 +68,7 @@ class Meaning:
     def __init__(self, plan):
         self.plan = plan
         self.pieces = self._group("piece", lambda piece: (piece.task, piece.job), lambda piece: piece.start)
+        self.windows_by_end = self._group("window", lambda row: (row.vcpu, row.start + row.length), lambda row: row.start)
         self.frames = self._group("frame", lambda frame: (frame.stream, frame.job), lambda frame: (frame.hop, frame.start))
         self.jobs_with_pieces = _second_by_first(self.pieces)
         self.jobs_with_frames = _second_by_first(self.frames)
@@ -101,9 +102,15 @@ class Meaning:
         return link if self.plan.row("link", link) else None
 
     def window_charge(self, window):
-        """The VCPU switch ticks at a window's start."""
+        """The VCPU switch ticks at a window's start; none where the VCPU keeps its core."""
         core = self.core_of_window(window)
-        return 0 if core is None else self.plan.rows["core"][core].v
+        return 0 if core is None or self.keeps_core(window) else self.plan.rows["core"][core].v
+
+    def keeps_core(self, window):
+        """Whether another window of the same VCPU ends at the tick where this one begins; never so at tick 0."""
+        row = self.plan.rows["window"][window]
+        before = self.windows_by_end.get((row.vcpu, row.start), ())
+        return row.start > 0 and any(other != window for other in before)
 
     def piece_charge(self, task):
         """The task switch ticks at the start of each of the task's pieces."""

@@ -18,6 +18,12 @@ class Listings(unittest.TestCase):
         self.assertIn(["1", "sort", "reads", "near,far", "20", "3", "20", "far", "1"], lines)
         self.assertIn(["0", "piece0", "scan", "0", "2..6", "near", "3..6"], lines)
 
+    def test_windows_after_their_switch(self):
+        lines = words("kept-core")
+        self.assertIn(["0", "window0", "guest", "0..6", "scanner", "2..6"], lines)
+        self.assertIn(["1", "window1", "guest", "6..11", "scanner", "6..11"], lines)
+        self.assertIn(["3", "window3", "radio", "13..20", "scanner", "15..20"], lines)
+
     def test_job_sums(self):
         self.assertIn(["decode", "0", "0..1500", "520", "520", "200", "760..1000", "1020..1300"], words("tunnel"))
         self.assertIn(["decode", "0", "0..8", "3", "!", "4", "3", "2..5"], words("q13-a-tick-short"))

@@ -62,6 +62,19 @@ class Pictures(unittest.TestCase):
         (piece,) = blocks
         self.assertAlmostEqual(float(piece.get("width")), 0.4 * 900)
 
+    def test_a_vcpu_that_keeps_its_core_has_no_switch(self):
+        """Of four windows the first and the last, another VCPU's, show switch ticks; the legend shows some too."""
+        plan, answer = example("kept-core")
+        elements = drawn(plan, answer)
+        titles = [title.text for element in elements for title in element.findall(SVG + "title")]
+        windows = [title for title in titles if title.startswith("window")]
+        self.assertEqual([title.split(", ", 1)[1] for title in windows], [
+            "VCPU switch 2", "keeps its core, no VCPU switch", "keeps its core, no VCPU switch", "VCPU switch 2",
+        ])
+        *switches, _legend = [element for element in elements if element.get("class") == "v"]
+        blocks = {element[0].text: element.get("x") for element in elements if len(element)}
+        self.assertEqual([switch.get("x") for switch in switches], [blocks[windows[0]], blocks[windows[3]]])
+
 
 class Marks(unittest.TestCase):
     def expect(self, name, *beginnings):

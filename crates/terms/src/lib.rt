@@ -5,14 +5,17 @@ ghost use Prim.Native.Nat.{_<_};
 ghost use Rattle.plan.specs.declared.Table.the-variants.{Tasks, Windows, Pieces, Streams, Frames};
 ghost use Rattle.plan.specs.Image.{rows};
 ghost use Rattle.plan.specs.Held.{Sound};
-ghost use Rattle.plan.specs.Questions.{coreOf, nodeOf, jobs, release, due, switchTicks, windowCore, windowEnd, charge, pieceCore, pieceEnd};
+ghost use Rattle.plan.specs.Search.{any};
+ghost use Rattle.plan.specs.Questions.{coreOf, nodeOf, jobs, release, due, switchTicks, windowCore, windowEnd, keepsFrom, charge, pieceCore, pieceEnd};
 ghost use Rattle.plan.specs.Questions.{streamPeriod, limit, sendTicks, frameEnd, across};
+use plan::Table;
 use tables::core_at;
 use tables::cycle_ticks;
 use tables::frame_at;
 use tables::link_at;
 use tables::piece_at;
 use tables::precision_ticks;
+use tables::rows_of;
 use tables::stream_at;
 use tables::task_at;
 use tables::vcpu_at;
@@ -85,12 +88,48 @@ pub fn window_end(image: &[u8], window: u32) -> u64
     w.start as u64 + w.length as u64
 }
 
-// A window's first ticks, which the VCPU switch takes.
+// Is another window one of the same VCPU that ends where this one begins?
+fn keeps_from(image: &[u8], window: u32, other: u32) -> bool
+    requires { ⌜ Sound (now image) × ((window < rows (now image) Windows) × (other < rows (now image) Windows)) ⌝ }
+    ensures { λ r. ⌜ r ≡ keepsFrom (now (image .entry)) window other ⌝ }
+{
+    let w = window_at(image, window);
+    let u = window_at(image, other);
+    let another = !(other == window);
+    let own = u.vcpu == w.vcpu;
+    let meets = window_end(image, other) == w.start as u64;
+    another & own & meets
+}
+
+// Is there such a window?
+fn follows_another(image: &[u8], window: u32) -> bool
+    requires { ⌜ Sound (now image) × (window < rows (now image) Windows) ⌝ }
+    ensures { λ r. ⌜ r ≡ any (rows (now (image .entry)) Windows) (keepsFrom (now (image .entry)) window) ⌝ }
+{
+    let windows = rows_of(image, Table::Windows);
+    let mut other: u32 = 0;
+    while other < windows {
+        if keeps_from(image, window, other) {
+            return true;
+        }
+        other += 1;
+    }
+    false
+}
+
+// A window's first ticks, which the VCPU switch takes: none where the window keeps its core. At tick 0 no window does.
 pub fn charge_of(image: &[u8], window: u32) -> u32
     requires { ⌜ Sound (now image) × (window < rows (now image) Windows) ⌝ }
     ensures { λ r. ⌜ r ≡ charge (now (image .entry)) window ⌝ }
 {
-    core_at(image, window_core(image, window)).v
+    let v = core_at(image, window_core(image, window)).v;
+    if window_at(image, window).start == 0 {
+        return v;
+    }
+    if follows_another(image, window) {
+        return 0;
+    }
+    v
 }
 
 // A piece's core.

@@ -1,12 +1,14 @@
 // Questions 7 to 13 (paper 01, "The questions"): windows, tasks and pieces.
 ghost use mathlib.Core.Path.{_≡_};
 ghost use Prim.Native.Nat.{_-_, _<_, _≤_};
+ghost use lib.ListN.{length};
 ghost use Rattle.plan.specs.declared.Table.the-variants.{Tasks, Windows, Pieces};
 ghost use Rattle.plan.specs.Image.{rows};
 ghost use Rattle.plan.specs.Held.{Sound};
-ghost use Rattle.plan.specs.Questions.{windowFits, windowApart, windowClear, maskAllows, pieceFits, inside, pieceInside, pieceApart, pieceClear, jobBudget, taskBudget};
+ghost use Rattle.plan.specs.Questions.{charge, windowFits, windowApart, windowClear, maskAllows, pieceFits, inside, pieceInside, pieceApart, pieceClear, jobBudget, taskBudget};
 ghost use Rattle.plan.specs.Questions.{questionAt, pieceQuestions, answerTo};
 ghost use Rattle.plan.specs.Held.{refusing};
+ghost use Rattle.windows.specs.Charges.{Charged};
 ghost use Rattle.windows.specs.Loads.{shareOf, loadOf, tableAsked};
 use plan::Answer;
 use plan::Found;
@@ -28,12 +30,33 @@ use terms::switch_ticks;
 use terms::window_core;
 use terms::window_end;
 
+// Finds the charge of every window: once, since questions 7 and 11 ask for it again and again.
+fn gather_charges(image: &[u8], charges: &mut [u32])
+    requires { ⌜ Sound (now image) × (length (now charges) ≡ 1024) ⌝ }
+    ensures { λ _. ⌜ Charged (now (image .entry)) (now (charges .exit)) ⌝ }
+{
+    let windows = rows_of(image, Table::Windows);
+    let mut window: u32 = 0;
+    while window < windows {
+        charges[window as usize] = charge_of(image, window);
+        window += 1;
+    }
+}
+
+// A window's charge, as found.
+fn charge_at(image: &[u8], charges: &[u32], window: u32) -> u32
+    requires { ⌜ Charged (now image) (now charges) × (Sound (now image) × (window < rows (now image) Windows)) ⌝ }
+    ensures { λ r. ⌜ r ≡ charge (now (image .entry)) window ⌝ }
+{
+    charges[window as usize]
+}
+
 // 7: is the window longer than its charge, and its end in the cycle?
-fn window_fits(image: &[u8], window: u32) -> bool
-    requires { ⌜ Sound (now image) × (window < rows (now image) Windows) ⌝ }
+fn window_fits(image: &[u8], charges: &[u32], window: u32) -> bool
+    requires { ⌜ Sound (now image) × (Charged (now image) (now charges) × (window < rows (now image) Windows)) ⌝ }
     ensures { λ r. ⌜ r ≡ windowFits (now (image .entry)) window ⌝ }
 {
-    let long = charge_of(image, window) < window_at(image, window).length;
+    let long = charge_at(image, charges, window) < window_at(image, window).length;
     let ends = window_end(image, window) <= cycle_ticks(image) as u64;
     long & ends
 }
@@ -86,27 +109,28 @@ fn piece_fits(image: &[u8], piece: u32) -> bool
 }
 
 // 11: does a piece lie in a window of its VCPU, after the window's charge?
-fn lies_inside(image: &[u8], piece: u32, window: u32) -> bool
+fn lies_inside(image: &[u8], charges: &[u32], piece: u32, window: u32) -> bool
     requires { ⌜ Sound (now image) × ((piece < rows (now image) Pieces) × (window < rows (now image) Windows)) ⌝ }
+    requires { ⌜ Charged (now image) (now charges) ⌝ }
     ensures { λ r. ⌜ r ≡ inside (now (image .entry)) piece window ⌝ }
 {
     let p = piece_at(image, piece);
     let w = window_at(image, window);
     let own = w.vcpu == task_at(image, p.task).vcpu;
-    let starts = w.start as u64 + charge_of(image, window) as u64 <= p.start as u64;
+    let starts = w.start as u64 + charge_at(image, charges, window) as u64 <= p.start as u64;
     let ends = piece_end(image, piece) <= window_end(image, window);
     own & starts & ends
 }
 
 // 11: is there such a window?
-fn piece_inside(image: &[u8], piece: u32) -> bool
-    requires { ⌜ Sound (now image) × (piece < rows (now image) Pieces) ⌝ }
+fn piece_inside(image: &[u8], charges: &[u32], piece: u32) -> bool
+    requires { ⌜ Sound (now image) × (Charged (now image) (now charges) × (piece < rows (now image) Pieces)) ⌝ }
     ensures { λ r. ⌜ r ≡ pieceInside (now (image .entry)) piece ⌝ }
 {
     let windows = rows_of(image, Table::Windows);
     let mut window: u32 = 0;
     while window < windows {
-        if lies_inside(image, piece, window) {
+        if lies_inside(image, charges, piece, window) {
             return true;
         }
         window += 1;
@@ -210,17 +234,17 @@ fn task_budget(image: &[u8], task: u32) -> bool
 }
 
 // Does a row pass question 7 to 13?
-fn passes(image: &[u8], number: u32, row: u32) -> bool
+fn passes(image: &[u8], charges: &[u32], number: u32, row: u32) -> bool
     requires { ⌜ Sound (now image) × ((7 ≤ number) × (number ≤ 13)) ⌝ }
-    requires { ⌜ row < questionAt (pieceQuestions (now image)) (number - 7) .many ⌝ }
+    requires { ⌜ (row < questionAt (pieceQuestions (now image)) (number - 7) .many) × Charged (now image) (now charges) ⌝ }
     ensures { λ r. ⌜ r ≡ questionAt (pieceQuestions (now (image .entry))) (number - 7) .ok row ⌝ }
 {
     match number {
-        7 => window_fits(image, row),
+        7 => window_fits(image, charges, row),
         8 => window_clear(image, row),
         9 => mask_allows(image, row),
         10 => piece_fits(image, row),
-        11 => piece_inside(image, row),
+        11 => piece_inside(image, charges, row),
         12 => piece_clear(image, row),
         _ => task_budget(image, row),
     }
@@ -240,14 +264,15 @@ fn table_of(number: u32) -> Table
 }
 
 // The lowest row that says no.
-fn first_no(image: &[u8], number: u32) -> Found
+fn first_no(image: &[u8], charges: &[u32], number: u32) -> Found
     requires { ⌜ Sound (now image) × ((7 ≤ number) × (number ≤ 13)) ⌝ }
+    requires { ⌜ Charged (now image) (now charges) ⌝ }
     ensures { λ r. ⌜ r ≡ refusing (questionAt (pieceQuestions (now (image .entry))) (number - 7)) ⌝ }
 {
     let rows = rows_of(image, table_of(number));
     let mut row: u32 = 0;
     while row < rows {
-        if !passes(image, number, row) {
+        if !passes(image, charges, number, row) {
             return Found::At(row);
         }
         row += 1;
@@ -255,14 +280,14 @@ fn first_no(image: &[u8], number: u32) -> Found
     Found::Nothing
 }
 
-// Questions 7 to 13, in this order.
-pub fn ask(image: &[u8]) -> Answer
-    requires { ⌜ Sound (now image) ⌝ }
+// Questions 7 to 13, in this order, with the charges at hand.
+fn ask_all(image: &[u8], charges: &[u32]) -> Answer
+    requires { ⌜ Sound (now image) × Charged (now image) (now charges) ⌝ }
     ensures { λ r. ⌜ r ≡ answerTo (pieceQuestions (now (image .entry))) ⌝ }
 {
     let mut number: u32 = 7;
     while number <= 13 {
-        match first_no(image, number) {
+        match first_no(image, charges, number) {
             Found::At(row) => {
                 return Answer {
                     number,
@@ -275,4 +300,14 @@ pub fn ask(image: &[u8]) -> Answer
         number += 1;
     }
     plan::accepted()
+}
+
+// Questions 7 to 13.
+pub fn ask(image: &[u8]) -> Answer
+    requires { ⌜ Sound (now image) ⌝ }
+    ensures { λ r. ⌜ r ≡ answerTo (pieceQuestions (now (image .entry))) ⌝ }
+{
+    let mut charges = [0u32; 1024];
+    gather_charges(image, &mut charges);
+    ask_all(image, &charges)
 }

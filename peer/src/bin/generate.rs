@@ -26,9 +26,10 @@ fn image(shape: &str, rng: &mut Rng) -> Vec<u8> {
         "rich" => generate::rich(rng),
         "large" => generate::large(rng),
         "busy" => generate::busy_core(rng),
+        "kept" => generate::kept_core(rng),
         "full" => generate::full(rng),
         "mutant" => return mutate::mutant(rng),
-        _ => panic!("shapes: bare units tiny shared small medium rich large busy full mutant"),
+        _ => panic!("shapes: bare units tiny shared small medium rich large busy kept full mutant"),
     };
     plan.encode()
 }

@@ -11,6 +11,7 @@ mod timeline;
 mod windows;
 
 pub use shapes::{
-    accepted, bare, busy_core, full, large, medium, rich, shared_buffer, small, small_rich, tiny,
-    unit_periods,
+    accepted, bare, busy_core, full, kept_core, large, medium, rich, shared_buffer, small,
+    small_rich, tiny, unit_periods,
 };
+pub use windows::cut_window;

@@ -1,6 +1,7 @@
 //! The shapes of plans.
 
 use super::draft::{shuffled, Draft, Flow, Haste, NewTask, Transaction};
+use super::windows::cut_window;
 use crate::image::Plan;
 use crate::rng::Rng;
 
@@ -73,8 +74,9 @@ pub fn accepted(rng: &mut Rng) -> Plan {
     match rng.below(100) {
         0..=3 => bare(rng),
         4..=7 => unit_periods(rng),
-        8..=39 => small(rng),
-        40..=69 => medium(rng),
+        8..=13 => kept_core(rng),
+        14..=41 => small(rng),
+        42..=69 => medium(rng),
         70..=95 => rich(rng),
         _ => large(rng),
     }
@@ -194,44 +196,115 @@ pub fn unit_periods(rng: &mut Rng) -> Plan {
 
 /// One core with all 1,024 windows and all 2,048 pieces of the plan.
 pub fn busy_core(rng: &mut Rng) -> Plan {
-    let [d, v] = [rng.within(0..=3), rng.within(0..=3)];
-    let vcpus = rng.within(1..=4);
-    let mut plan = Plan {
-        cores: vec![[0, d, v]],
-        vcpus: vec![[0]; vcpus as usize],
-        ..Plan::default()
-    };
-    plan.tasks = (0..256).map(|task| [task % vcpus, 0, 0, 0, 0]).collect();
-    let gap = |rng: &mut Rng| rng.pick(&[0, 1, 1, 2]);
-    let mut now = 0;
-    for window in 0..1_024 {
-        let vcpu = window % vcpus;
-        let start = now + gap(rng);
-        now = start + v + gap(rng);
-        for _ in 0..2 {
-            let task = next_task(&plan, vcpu, rng);
-            let work = rng.within(1..=3);
-            plan.pieces.push([task, 0, now, d + work]);
-            plan.tasks[task as usize][3] += work;
-            now += d + work + gap(rng);
-        }
-        plan.windows.push([vcpu, start, now - start]);
+    let mut core = OneCore::new(256, &[0, 1, 1, 2], rng);
+    while core.plan.windows.len() < 1_024 {
+        core.add_window(2, rng);
     }
-    plan.cycle = now + gap(rng);
-    for task in &mut plan.tasks {
-        (task[2], task[4]) = (plan.cycle, plan.cycle);
-    }
-    shuffled(plan, rng)
+    let period = core.now + core.gap(rng);
+    core.finish(period, 1, rng)
 }
 
-/// A task of the VCPU that has no piece yet, or else any.
-fn next_task(plan: &Plan, vcpu: u32, rng: &mut Rng) -> u32 {
-    let of_vcpu = |task: &u32| plan.tasks[*task as usize][0] == vcpu;
-    let tasks: Vec<u32> = (0..256).filter(of_vcpu).collect();
-    let waits = |task: &&u32| plan.tasks[**task as usize][3] == 0;
-    match tasks.iter().find(waits) {
-        Some(&task) => task,
-        None => rng.pick(&tasks),
+/// One core for cycles of at most 60 ticks, with few gaps and long runs of
+/// windows of one VCPU, also over the ends of periods. Many pieces start with
+/// their window or right after its switch.
+pub fn kept_core(rng: &mut Rng) -> Plan {
+    let mut core = OneCore::new(4, &[0, 0, 0, 0, 1], rng);
+    let until = rng.within(1..=30);
+    while core.now < until {
+        let pieces = rng.within(0..=2);
+        core.add_window(pieces, rng);
+    }
+    let period = core.now + core.gap(rng);
+    let most_jobs = (60 / period).clamp(1, 3);
+    let jobs = rng.within(1..=most_jobs);
+    core.finish(period, jobs, rng)
+}
+
+/// The windows of one core, laid one after the other.
+struct OneCore {
+    plan: Plan,
+    most_tasks: usize,
+    /// The gaps between windows and pieces to choose from.
+    gaps: &'static [u32],
+    /// The VCPU of the last window.
+    vcpu: u32,
+    /// The first tick after it.
+    now: u32,
+}
+
+impl OneCore {
+    fn new(most_tasks: usize, gaps: &'static [u32], rng: &mut Rng) -> OneCore {
+        let core = [15, 3, 3].map(|most| rng.within(0..=most));
+        let vcpus = rng.within(1..=4);
+        OneCore {
+            plan: Plan {
+                cores: vec![core],
+                vcpus: vec![[0]; vcpus as usize],
+                ..Plan::default()
+            },
+            most_tasks,
+            gaps,
+            vcpu: rng.within(0..=vcpus - 1),
+            now: 0,
+        }
+    }
+
+    fn gap(&self, rng: &mut Rng) -> u32 {
+        rng.pick(self.gaps)
+    }
+
+    /// Adds a window with so many pieces, often of the same VCPU as before.
+    fn add_window(&mut self, pieces: u32, rng: &mut Rng) {
+        let [_, d, v] = self.plan.cores[0];
+        let any = rng.below(self.plan.vcpus.len()) as u32;
+        let vcpu = rng.pick(&[self.vcpu, any]);
+        let start = self.now + self.gap(rng);
+        let keeps = 0 < start && start == self.now && vcpu == self.vcpu;
+        let charge = if keeps { 0 } else { v };
+        let mut end = start + charge + self.gap(rng);
+        for _ in 0..pieces {
+            let task = self.next_task(vcpu, rng);
+            let work = rng.within(1..=3);
+            self.plan.pieces.push([task, 0, end, d + work]);
+            self.plan.tasks[task as usize][3] += work;
+            end += d + work + self.gap(rng);
+        }
+        end = end.max(start + charge + rng.within(1..=4));
+        self.plan.windows.push([vcpu, start, end - start]);
+        (self.vcpu, self.now) = (vcpu, end);
+    }
+
+    /// A new task, or any of the VCPU when there are enough.
+    fn next_task(&mut self, vcpu: u32, rng: &mut Rng) -> u32 {
+        let tasks = &mut self.plan.tasks;
+        let of_vcpu = |task: &u32| tasks[*task as usize][0] == vcpu;
+        let known: Vec<u32> = (0..tasks.len() as u32).filter(of_vcpu).collect();
+        match rng.pick_any(&known) {
+            Some(task) if tasks.len() >= self.most_tasks => task,
+            _ => {
+                tasks.push([vcpu, 0, 0, 0, 0]);
+                tasks.len() as u32 - 1
+            }
+        }
+    }
+
+    /// The plan, with all that was laid once for each job. Only in the first
+    /// one the first window may pay where it does not in the others.
+    fn finish(self, period: u32, jobs: u32, rng: &mut Rng) -> Plan {
+        let mut plan = self.plan;
+        plan.cycle = period * jobs;
+        for task in &mut plan.tasks {
+            (task[2], task[4]) = (period, period);
+        }
+        let (windows, pieces) = (plan.windows.clone(), plan.pieces.clone());
+        for k in 1..jobs {
+            let later = k * period;
+            let window = |&[vcpu, start, length]: &[u32; 3]| [vcpu, later + start, length];
+            let piece = |&[task, _, start, length]: &[u32; 4]| [task, k, later + start, length];
+            plan.windows.extend(windows.iter().map(window));
+            plan.pieces.extend(pieces.iter().map(piece));
+        }
+        shuffled(plan, rng)
     }
 }
 
@@ -270,6 +343,9 @@ pub fn shared_buffer(rng: &mut Rng) -> Plan {
     for k in 1..jobs {
         let of_job = |[task, _, start, length]: [u32; 4]| [task, k, k * period + start, length];
         plan.pieces.extend(first_jobs.iter().copied().map(of_job));
+    }
+    for _ in 0..rng.below(4) {
+        cut_window(&mut plan, rng);
     }
     shuffled(plan, rng)
 }

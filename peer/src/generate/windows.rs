@@ -17,17 +17,44 @@ struct Gap {
     core: u32,
     from: u32,
     to: u32,
+    /// The VCPU of the window that ends where the gap begins.
+    before: Option<u32>,
+}
+
+/// What becomes of neighbouring pieces of one VCPU, so often of 100.
+#[derive(Clone, Copy)]
+struct Habits {
+    /// A window of its own for the later one, right behind the other's.
+    adjoining: usize,
+    /// Else one window for both, where they may have two.
+    together: usize,
 }
 
 /// Windows that hold all pieces, with spare ones in the gaps between. There
 /// are as many as wanted, or else any number in bounds.
 pub fn lay_windows(plan: &Plan, wanted: Option<usize>, rng: &mut Rng) -> Option<Vec<[u32; 3]>> {
+    let habits = Habits {
+        adjoining: rng.pick(&[0, 20, 60]),
+        together: rng.pick(&[30, 60, 90]),
+    };
+    let fewer = Habits {
+        adjoining: 0,
+        ..habits
+    };
+    try_lay(plan, wanted, habits, rng).or_else(|| try_lay(plan, wanted, fewer, rng))
+}
+
+fn try_lay(
+    plan: &Plan,
+    wanted: Option<usize>,
+    habits: Habits,
+    rng: &mut Rng,
+) -> Option<Vec<[u32; 3]>> {
     let most = ROW_BOUNDS[WINDOW as usize - 1].1 as usize;
-    let together = rng.pick(&[30, 60, 90]);
     let mut windows = Vec::new();
     let mut gaps = Vec::new();
     for core in 0..plan.cores.len() as u32 {
-        let mut on_core = stretches(plan, core, together, rng);
+        let mut on_core = stretches(plan, core, habits, rng);
         gaps.extend(widen(&mut on_core, plan.cycle, core, rng));
         windows.extend(on_core);
     }
@@ -41,24 +68,24 @@ pub fn lay_windows(plan: &Plan, wanted: Option<usize>, rng: &mut Rng) -> Option<
     (wanted.is_none() || added == spare).then(|| windows.iter().map(words).collect())
 }
 
-/// The pieces of a core with the VCPU switch before them; neighbours of one
-/// VCPU come together where they must, and so often of 100 where they may.
-fn stretches(plan: &Plan, core: u32, together: usize, rng: &mut Rng) -> Vec<Stretch> {
+/// The pieces of a core with the VCPU switch before them, where there is one.
+fn stretches(plan: &Plan, core: u32, habits: Habits, rng: &mut Rng) -> Vec<Stretch> {
     let v = plan.cores[core as usize][2];
     let mut stretches: Vec<Stretch> = Vec::new();
     for piece in pieces_on(plan, core) {
-        match stretches.last_mut() {
-            Some(last)
-                if last.vcpu == piece.vcpu
-                    && (piece.from < last.to + v || rng.chance(together)) =>
-            {
-                last.to = piece.to;
+        let last = stretches.last_mut();
+        let from = match last.filter(|last| last.vcpu == piece.vcpu) {
+            Some(last) if rng.chance(habits.adjoining) => {
+                last.to = widened(last.to, piece.from, rng);
+                last.to
             }
-            _ => stretches.push(Stretch {
-                from: piece.from - v,
-                ..piece
-            }),
-        }
+            Some(last) if piece.from < last.to + v || rng.chance(habits.together) => {
+                last.to = piece.to;
+                continue;
+            }
+            _ => piece.from - v,
+        };
+        stretches.push(Stretch { from, ..piece });
     }
     stretches
 }
@@ -85,10 +112,12 @@ fn widen(windows: &mut [Stretch], cycle: u32, core: u32, rng: &mut Rng) -> Vec<G
             core,
             from: free_from,
             to: windows.get(next).map_or(cycle, |window| window.from),
+            before: None,
         };
         if let Some(before) = next.checked_sub(1) {
             gap.from = widened(gap.from, gap.to, rng);
             windows[before].to = gap.from;
+            gap.before = Some(windows[before].vcpu);
         }
         if next < windows.len() {
             gap.to -= widened(0, gap.to - gap.from, rng);
@@ -123,11 +152,16 @@ fn fill_gaps(
         let Some(gap) = gaps.pop() else { break };
         let on_core = |vcpu: &u32| plan.core_of_vcpu(*vcpu) == gap.core;
         let owners: Vec<u32> = (0..plan.vcpus.len() as u32).filter(on_core).collect();
-        let least = plan.cores[gap.core as usize][2] + 1;
-        if owners.is_empty() || gap.to - gap.from < least {
+        let any = rng.pick_any(&owners);
+        let owner = if rng.chance(40) {
+            gap.before.or(any)
+        } else {
+            any
+        };
+        let v = plan.cores[gap.core as usize][2];
+        let Some(window) = owner.and_then(|owner| window_in(gap, v, owner, rng)) else {
             continue;
-        }
-        let window = window_in(gap, least, rng.pick(&owners), rng);
+        };
         windows.push(window);
         added += 1;
         gaps.push(Gap {
@@ -136,6 +170,7 @@ fn fill_gaps(
         });
         gaps.push(Gap {
             from: window.to,
+            before: Some(window.vcpu),
             ..gap
         });
         let last = gaps.len() - 1;
@@ -144,13 +179,46 @@ fn fill_gaps(
     added
 }
 
-fn window_in(gap: Gap, least: u32, vcpu: u32, rng: &mut Rng) -> Stretch {
-    let longest = (gap.to - gap.from).min(least.max((gap.to - gap.from) / 4));
-    let length = rng.within(least..=longest);
-    let from = widened(gap.from, gap.to - length, rng);
-    Stretch {
+/// A window in a gap that has room for one. Where it adjoins one of its own
+/// VCPU it may be as short as the switch, or shorter.
+fn window_in(gap: Gap, v: u32, vcpu: u32, rng: &mut Rng) -> Option<Stretch> {
+    let room = gap.to - gap.from;
+    let adjoins = gap.before == Some(vcpu) && rng.chance(60);
+    let least = if adjoins { 1 } else { v + 1 };
+    if room < least {
+        return None;
+    }
+    let longest = room.min(least.max(room / 4));
+    let any = rng.within(least..=longest);
+    let (from, length) = if adjoins {
+        (gap.from, rng.pick(&[1, v.clamp(1, room), any]))
+    } else {
+        (widened(gap.from, gap.to - any, rng), any)
+    };
+    Some(Stretch {
         vcpu,
         from,
         to: from + length,
-    }
+    })
+}
+
+/// Cuts a window in two at a tick at which no piece runs on, where there is
+/// one. The later one adjoins the other and pays no switch, so that an
+/// accepted plan stays one.
+pub fn cut_window(plan: &mut Plan, rng: &mut Rng) -> Option<()> {
+    let window = rng.below(plan.windows.len().max(1));
+    let [vcpu, start, length] = *plan.windows.get(window)?;
+    let runs_on = |tick: &u32| {
+        plan.pieces.iter().any(|&[task, _, start, length]| {
+            let own = plan.tasks[task as usize][0] == vcpu;
+            own && start < *tick && *tick < start + length
+        })
+    };
+    let first = start + plan.vcpu_switch(vcpu) + 1;
+    let ticks = (first..start + length).take(1_000);
+    let ticks: Vec<u32> = ticks.filter(|tick| !runs_on(tick)).collect();
+    let cut = rng.pick_any(&ticks)?;
+    plan.windows[window][2] = cut - start;
+    plan.windows.push([vcpu, cut, start + length - cut]);
+    Some(())
 }

@@ -1,5 +1,6 @@
 //! Changes aimed at questions 22 to 24.
 
+use super::charges::continues;
 use super::cores::window_of;
 use super::{any_pair, any_row, any_where, insert, job_span, wide, word};
 use crate::image::{Plan, BUFFER};
@@ -69,8 +70,10 @@ fn shift_reader(plan: &mut Plan, rng: &mut Rng) -> Option<()> {
     let start = written - rng.pick(&[0, 1, 1, 1]);
     if let Some(window) = window_of(plan, first) {
         let [vcpu, opens, open] = plan.windows[window].map(wide);
-        let sooner = opens.min(start - wide(plan.vcpu_switch(vcpu as u32)));
-        plan.windows[window] = [vcpu, sooner, opens + open - sooner].map(word);
+        let least = start - wide(plan.vcpu_switch(vcpu as u32));
+        if opens > start || opens > least && !continues(plan, window) {
+            plan.windows[window] = [vcpu, least, opens + open - least].map(word);
+        }
     }
     plan.pieces[first][2] = word(start);
     Some(())

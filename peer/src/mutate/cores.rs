@@ -1,5 +1,6 @@
 //! Changes aimed at questions 4 to 13.
 
+use super::charges::{early_piece, short_window};
 use super::{any_pair, any_row, any_where, insert, job_span, set, wide, word};
 use crate::image::{Plan, PIECE, TASK, WINDOW};
 use crate::rng::Rng;
@@ -110,6 +111,9 @@ fn buffer_range(plan: &mut Plan, rng: &mut Rng) -> Option<()> {
 }
 
 pub fn window_bounds(plan: &mut Plan, rng: &mut Rng) -> Option<()> {
+    if rng.chance(50) {
+        return short_window(plan, rng);
+    }
     let row = any_row(&plan.windows, rng)?;
     let [vcpu, start, length] = plan.windows[row];
     let v = plan.vcpu_switch(vcpu);
@@ -211,6 +215,9 @@ pub fn window_of(plan: &Plan, piece: usize) -> Option<usize> {
 }
 
 pub fn piece_in_window(plan: &mut Plan, rng: &mut Rng) -> Option<()> {
+    if rng.chance(50) {
+        return early_piece(plan, rng);
+    }
     let row = any_row(&plan.pieces, rng)?;
     let window = window_of(plan, row)?;
     let [task, _, start, length] = plan.pieces[row].map(wide);

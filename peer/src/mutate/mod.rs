@@ -5,11 +5,12 @@
 
 mod buffers;
 mod bytes;
+mod charges;
 mod cores;
 mod streams;
 
 use crate::generate;
-use crate::image::{Plan, ROW_BOUNDS};
+use crate::image::{Plan, ROW_BOUNDS, WINDOW};
 use crate::rng::Rng;
 
 /// An image made of an accepted plan by one change, sometimes by two.
@@ -91,13 +92,17 @@ pub fn aim(question: u32, plan: &mut Plan, rng: &mut Rng) -> Option<()> {
 
 /// Changes that most plans bear.
 fn harmless(plan: &mut Plan, rng: &mut Rng) {
-    match rng.below(6) {
+    match rng.below(7) {
         0 => plan.precision = plan.precision.saturating_sub(1),
         1 => plan.tasks.iter_mut().for_each(|task| task[4] = task[2]),
         2 => plan.tasks.iter_mut().for_each(|task| task[1] = u32::MAX),
         3 => plan.streams.iter_mut().for_each(|row| row[2] = 1_000_000),
         4 => rng.shuffle(&mut plan.pieces),
-        _ => rng.shuffle(&mut plan.windows),
+        5 => rng.shuffle(&mut plan.windows),
+        _ if plan.windows.len() < ROW_BOUNDS[WINDOW as usize - 1].1 as usize => {
+            generate::cut_window(plan, rng);
+        }
+        _ => {}
     }
 }
 

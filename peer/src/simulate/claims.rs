@@ -54,9 +54,10 @@ fn broken_by_work(plan: &Plan, id: JobId, tick: Tick) -> Vec<Claim> {
     let [vcpu, _, period, _, deadline] = plan.tasks[id.task as usize];
     let at = tick.index as u32 % plan.cycle;
     let release = id.k * period;
-    let in_window = plan.windows.iter().any(|&[owner, start, length]| {
-        let work = start + plan.vcpu_switch(vcpu)..start + length;
-        owner == vcpu && work.contains(&at)
+    let in_window = plan.windows.iter().any(|window| {
+        let &[owner, start, length] = window;
+        let is_inside = (start..start + length).contains(&at);
+        owner == vcpu && is_inside && !is_switching(plan, window, at)
     });
     let mut broken = Vec::new();
     if tick.lane != plan.core_of_vcpu(vcpu) as usize {
@@ -69,6 +70,16 @@ fn broken_by_work(plan: &Plan, id: JobId, tick: Tick) -> Vec<Claim> {
         broken.push(Claim::Window);
     }
     broken
+}
+
+/// Whether a tick of a window goes to the VCPU switch: it is one of the first
+/// v, and the VCPU had not kept the core until the window began. In a cycle's
+/// first tick nobody has kept it.
+fn is_switching(plan: &Plan, &[vcpu, start, _]: &[u32; 3], at: u32) -> bool {
+    let mut own = plan.windows.iter().filter(|window| window[0] == vcpu);
+    // The window itself is not empty, and so does not end where it begins.
+    let is_kept = start != 0 && own.any(|&[_, begin, length]| begin + length == start);
+    !is_kept && at - start < plan.vcpu_switch(vcpu)
 }
 
 fn name(id: JobId) -> String {

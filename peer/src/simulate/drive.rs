@@ -67,7 +67,11 @@ impl fmt::Display for Failure {
 pub fn simulate(settings: &Settings, all: &[&dyn Boundary]) -> Result<Summary, Failure> {
     let mut summary = Summary::default();
     for (number, mut rng) in settings.cases() {
-        let plan = generate::tiny(&mut rng);
+        let plan = if rng.chance(20) {
+            generate::kept_core(&mut rng)
+        } else {
+            generate::tiny(&mut rng)
+        };
         let case = Case::new(number, &plan, &mut rng);
         let tables = case.tables(all)?;
         for (cycle, calls) in lists(&plan, &mut rng) {

@@ -18,7 +18,7 @@ pub enum Claim {
     Core,
     /// It works from its release on and before its due tick.
     Due,
-    /// It works in windows of its VCPU after their first v ticks.
+    /// It works in windows of its VCPU, after the ticks of their switch.
     Window,
     /// The receiver's job starts only where the message has arrived.
     Arrived,

@@ -49,7 +49,8 @@ def windows(scene):
     for number, row in enumerate(plan.rows["window"]):
         lane, end = scene.lanes.get("core", meaning.core_of_window(number)), row.start + row.length
         vcpu, charge = plan.name("vcpu", row.vcpu), min(meaning.window_charge(number), row.length)
-        title = f"{plan.name('window', number)} of {vcpu}: {row.start}..{end}, VCPU switch {charge}"
+        switch = "keeps its core, no VCPU switch" if meaning.keeps_core(number) else f"VCPU switch {charge}"
+        title = f"{plan.name('window', number)} of {vcpu}: {row.start}..{end}, {switch}"
         look = f"w w{row.vcpu % len(WINDOW_TINTS)}"
         yield Block("window", number, lane, row.start, end, charge, title, (vcpu,), look)
 

@@ -18,10 +18,10 @@ use Rattle.windows.proofs.passes.Reads as passes-reads
 use Rattle.windows.proofs.table_of.Reads as table-of-reads
 
 abbrev Inv-loop : tie.InvT-loop
-Inv-loop image number n row₀ row = (row ≤ n) × (firstNo row (questionAt (pieceQuestions image) (number - 7) .ok) ≡ Nothing)
+Inv-loop image charges number n row₀ row = (row ≤ n) × (firstNo row (questionAt (pieceQuestions image) (number - 7) .ok) ≡ Nothing)
 
 abbrev μ-loop : tie.MeasureT-loop
-μ-loop image number n row₀ row = n - row
+μ-loop image charges number n row₀ row = n - row
 
 -- src/lib.rt:247:31
 table-of-requires : tie.Need-table-of-requires Inv-loop μ-loop
@@ -29,7 +29,7 @@ table-of-requires c κs = tt
 
 -- src/lib.rt:247:9
 rows-of-requires : tie.Need-rows-of-requires Inv-loop μ-loop
-rows-of-requires c κs = c .before .before .pre .0 .inside .trailer
+rows-of-requires c κs = c .before .before .before .pre .0 .0 .inside .trailer
 
 -- src/lib.rt:249:5
 loop-holds : tie.Need-loop-holds Inv-loop μ-loop
@@ -38,11 +38,11 @@ loop-holds c = (omega arith, refl)
 
 -- src/lib.rt:250:13
 passes-requires : tie.Need-passes-requires Inv-loop μ-loop
-passes-requires c κs = let l = c .before .loop in let a = c .before .before .before .before .before .args in let p = c .before .before .before .before .before .pre in let s = a .image .now in let q = questionAt (pieceQuestions s) (a .number - 7) in let g : c .before .before .rows-of .result ≡ q .many = c .before .before .rows-of .ensures ∙ ap (rows s) (c .before .before .before .table-of .ensures) ∙ sym (asked s (a .number) (p .1 .0) (p .1 .1) .many) in (p, rw (← g) (c .loop-test .taken))
+passes-requires c κs = let l = c .before .loop in let a = c .before .before .before .before .before .before .args in let p = c .before .before .before .before .before .before .pre in let s = a .image .now in let q = questionAt (pieceQuestions s) (a .number - 7) in let g : c .before .before .rows-of .result ≡ q .many = c .before .before .rows-of .ensures ∙ ap (rows s) (c .before .before .before .table-of .ensures) ∙ sym (asked s (a .number) (p .0 .1 .0) (p .0 .1 .1) .many) in (p .0, (rw (← g) (c .loop-test .taken), p .1))
 
 -- src/lib.rt:251:13
 returns : tie.Need-returns Inv-loop μ-loop
-returns c = let b = c .before in let l = b .before .before .loop in let a = c .before .before .before .before .before .before .before .args in let p = c .before .before .before .before .before .before .before .pre in let s = a .image .now in let q = questionAt (pieceQuestions s) (a .number - 7) in let g : c .before .before .before .before .rows-of .result ≡ q .many = c .before .before .before .before .rows-of .ensures ∙ ap (rows s) (c .before .before .before .before .before .table-of .ensures) ∙ sym (asked s (a .number) (p .1 .0) (p .1 .1) .many) in sym (stops (q .ok) (q .many) (l .row) (l .inv .1) (rw (← g) (b .before .loop-test .taken)) (sym (b .passes .ensures) ∙ not-true _ (c .if1 .taken)))
+returns c = let b = c .before in let l = b .before .before .loop in let a = c .before .before .before .before .before .before .before .before .args in let p = c .before .before .before .before .before .before .before .before .pre in let s = a .image .now in let q = questionAt (pieceQuestions s) (a .number - 7) in let g : c .before .before .before .before .rows-of .result ≡ q .many = c .before .before .before .before .rows-of .ensures ∙ ap (rows s) (c .before .before .before .before .before .table-of .ensures) ∙ sym (asked s (a .number) (p .0 .1 .0) (p .0 .1 .1) .many) in sym (stops (q .ok) (q .many) (l .row) (l .inv .1) (rw (← g) (b .before .loop-test .taken)) (sym (b .passes .ensures) ∙ not-true _ (c .if1 .taken)))
 
 -- src/lib.rt:253:9
 add-row : tie.Need-add-row Inv-loop μ-loop
@@ -54,11 +54,11 @@ loop-less c = omega arith
 
 -- src/lib.rt:249:5
 loop-again : tie.Need-loop-again Inv-loop μ-loop
-loop-again c = let b = c .before in let l = b .before .before .loop in let a = c .before .before .before .before .before .before .before .args in let p = c .before .before .before .before .before .before .before .pre in let s = a .image .now in let q = questionAt (pieceQuestions s) (a .number - 7) in let g : c .before .before .before .before .rows-of .result ≡ q .many = c .before .before .before .before .rows-of .ensures ∙ ap (rows s) (c .before .before .before .before .before .table-of .ensures) ∙ sym (asked s (a .number) (p .1 .0) (p .1 .1) .many) in (omega arith, rw add-one (turn-yes (q .ok) (l .row) (l .inv .1) (sym (b .passes .ensures) ∙ not-false _ (c .if1 .left))))
+loop-again c = let b = c .before in let l = b .before .before .loop in let a = c .before .before .before .before .before .before .before .before .args in let p = c .before .before .before .before .before .before .before .before .pre in let s = a .image .now in let q = questionAt (pieceQuestions s) (a .number - 7) in let g : c .before .before .before .before .rows-of .result ≡ q .many = c .before .before .before .before .rows-of .ensures ∙ ap (rows s) (c .before .before .before .before .before .table-of .ensures) ∙ sym (asked s (a .number) (p .0 .1 .0) (p .0 .1 .1) .many) in (omega arith, rw add-one (turn-yes (q .ok) (l .row) (l .inv .1) (sym (b .passes .ensures) ∙ not-false _ (c .if1 .left))))
 
 -- src/lib.rt:243:1
 returns-2 : tie.Need-returns-2 Inv-loop μ-loop
-returns-2 c = let l = c .before .loop in let a = c .before .before .before .before .before .args in let p = c .before .before .before .before .before .pre in let s = a .image .now in let q = questionAt (pieceQuestions s) (a .number - 7) in let g : c .before .before .rows-of .result ≡ q .many = c .before .before .rows-of .ensures ∙ ap (rows s) (c .before .before .before .table-of .ensures) ∙ sym (asked s (a .number) (p .1 .0) (p .1 .1) .many) in let e : l .row ≡ q .many = omega arith in sym (subst (λ (n : ℕ). firstNo n (q .ok) ≡ Nothing) e (l .inv .1))
+returns-2 c = let l = c .before .loop in let a = c .before .before .before .before .before .before .args in let p = c .before .before .before .before .before .before .pre in let s = a .image .now in let q = questionAt (pieceQuestions s) (a .number - 7) in let g : c .before .before .rows-of .result ≡ q .many = c .before .before .rows-of .ensures ∙ ap (rows s) (c .before .before .before .table-of .ensures) ∙ sym (asked s (a .number) (p .0 .1 .0) (p .0 .1 .1) .many) in let e : l .row ≡ q .many = omega arith in sym (subst (λ (n : ℕ). firstNo n (q .ok) ≡ Nothing) e (l .inv .1))
 
 pub first-no-spec : {M : Type 1} → statement M
 first-no-spec =

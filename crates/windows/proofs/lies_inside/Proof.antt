@@ -8,51 +8,51 @@ use Rattle.windows.proofs.lies_inside.Lts as lts
 use Rattle.tables.proofs.piece_at.Reads as piece-at-reads
 use Rattle.tables.proofs.task_at.Reads as task-at-reads
 use Rattle.tables.proofs.window_at.Reads as window-at-reads
-use Rattle.terms.proofs.charge_of.Reads as charge-of-reads
 use Rattle.terms.proofs.piece_end.Reads as piece-end-reads
 use Rattle.terms.proofs.window_end.Reads as window-end-reads
+use Rattle.windows.proofs.charge_at.Reads as charge-at-reads
 
--- src/lib.rt:87:9
+-- src/lib.rt:117:9
 piece-at-requires : tie.Need-piece-at-requires
 piece-at-requires c κs = search needs
 
--- src/lib.rt:88:9
+-- src/lib.rt:118:9
 window-at-requires : tie.Need-window-at-requires
 window-at-requires c κs = search needs
 
--- src/lib.rt:89:25
+-- src/lib.rt:119:25
 task-at-requires : tie.Need-task-at-requires
-task-at-requires c κs = let p = c .before .before .before .pre in (p .0 .inside, rw (c .before .piece-at .ensures) (p .0 .names Pieces (c .before .before .before .args .piece) (p .1 .0)))
+task-at-requires c κs = let p = c .before .before .before .before .pre in (p .0 .0 .inside, rw (c .before .piece-at .ensures) (p .0 .0 .names Pieces (c .before .before .before .before .args .piece) (p .0 .1 .0)))
 
--- src/lib.rt:90:18
+-- src/lib.rt:120:18
 cast-starts : tie.Need-cast-starts
 cast-starts c = search needs
 
--- src/lib.rt:90:35
-charge-of-requires : tie.Need-charge-of-requires
-charge-of-requires c κs = search needs
+-- src/lib.rt:120:35
+charge-at-requires : tie.Need-charge-at-requires
+charge-at-requires c κs = search needs
 
--- src/lib.rt:90:35
+-- src/lib.rt:120:35
 cast-starts-2 : tie.Need-cast-starts-2
 cast-starts-2 c = search needs
 
--- src/lib.rt:90:18
+-- src/lib.rt:120:18
 add-starts : tie.Need-add-starts
 add-starts c = search needs
 
--- src/lib.rt:90:70
+-- src/lib.rt:120:79
 cast-starts-3 : tie.Need-cast-starts-3
 cast-starts-3 c = search needs
 
--- src/lib.rt:91:16
+-- src/lib.rt:121:16
 piece-end-requires : tie.Need-piece-end-requires
-piece-end-requires c κs = search needs
+piece-end-requires c κs = let p = c .before .before .before .before .before .before .before .before .before .before .pre in (p .0 .0, p .0 .1 .0)
 
--- src/lib.rt:91:43
+-- src/lib.rt:121:43
 window-end-requires : tie.Need-window-end-requires
-window-end-requires c κs = search needs
+window-end-requires c κs = let p = c .before .before .before .before .before .before .before .before .before .before .before .pre in (p .0 .0, p .0 .1 .1)
 
--- src/lib.rt:83:1
+-- src/lib.rt:112:1
 returns : tie.Need-returns
 unfolding inside
 returns c = cc
@@ -65,7 +65,7 @@ lies-inside-spec =
     window-at-requires
     task-at-requires
     cast-starts
-    charge-of-requires
+    charge-at-requires
     cast-starts-2
     add-starts
     cast-starts-3

@@ -16,14 +16,14 @@ use Rattle.tables.proofs.rows_of.Reads as rows-of-reads
 use Rattle.windows.proofs.lies_inside.Reads as lies-inside-reads
 
 abbrev Inv-loop : tie.InvT-loop
-Inv-loop image piece windows window₀ window = (window ≤ windows) × (any window (inside image piece) ≡ false)
+Inv-loop image charges piece windows window₀ window = (window ≤ windows) × (any window (inside image piece) ≡ false)
 
 abbrev μ-loop : tie.MeasureT-loop
-μ-loop image piece windows window₀ window = windows - window
+μ-loop image charges piece windows window₀ window = windows - window
 
 -- src/lib.rt:100:9
 rows-of-requires : tie.Need-rows-of-requires Inv-loop μ-loop
-rows-of-requires c κs = c .before .pre .0 .inside .trailer
+rows-of-requires c κs = c .before .before .pre .0 .inside .trailer
 
 -- src/lib.rt:102:5
 loop-holds : tie.Need-loop-holds Inv-loop μ-loop
@@ -32,12 +32,12 @@ loop-holds c = (omega arith, refl)
 
 -- src/lib.rt:103:12
 lies-inside-requires : tie.Need-lies-inside-requires Inv-loop μ-loop
-lies-inside-requires c κs = let p = c .before .before .before .before .pre in let g = c .before .before .rows-of .ensures in (p .0, (p .1, omega arith))
+lies-inside-requires c κs = let p = c .before .before .before .before .before .pre in let g = c .before .before .rows-of .ensures in ((p .0, (p .1 .1, omega arith)), p .1 .0)
 
 -- src/lib.rt:104:13
 returns : tie.Need-returns Inv-loop μ-loop
 unfolding pieceInside
-returns c = let b = c .before in let l = b .before .before .loop in let g = b .before .before .before .rows-of .ensures in let a = b .before .before .before .before .before .args in let t = inside (a .image .now) (a .piece) in sym (any-stops t (rows (a .image .now) Windows) (l .window) (omega arith) (sym (b .lies-inside .ensures) ∙ c .if1 .taken))
+returns c = let b = c .before in let l = b .before .before .loop in let g = b .before .before .before .rows-of .ensures in let a = b .before .before .before .before .before .before .args in let t = inside (a .image .now) (a .piece) in sym (any-stops t (rows (a .image .now) Windows) (l .window) (omega arith) (sym (b .lies-inside .ensures) ∙ c .if1 .taken))
 
 -- src/lib.rt:106:9
 add-window : tie.Need-add-window Inv-loop μ-loop
@@ -49,12 +49,12 @@ loop-less c = omega arith
 
 -- src/lib.rt:102:5
 loop-again : tie.Need-loop-again Inv-loop μ-loop
-loop-again c = let b = c .before in let l = b .before .before .loop in let g = b .before .before .before .rows-of .ensures in let a = b .before .before .before .before .before .args in let t = inside (a .image .now) (a .piece) in (omega arith, rw add-one (any-turn t (l .window) (l .inv .1) (sym (b .lies-inside .ensures) ∙ c .if1 .left)))
+loop-again c = let b = c .before in let l = b .before .before .loop in let g = b .before .before .before .rows-of .ensures in let a = b .before .before .before .before .before .before .args in let t = inside (a .image .now) (a .piece) in (omega arith, rw add-one (any-turn t (l .window) (l .inv .1) (sym (b .lies-inside .ensures) ∙ c .if1 .left)))
 
 -- src/lib.rt:96:1
 returns-2 : tie.Need-returns-2 Inv-loop μ-loop
 unfolding pieceInside
-returns-2 c = let l = c .before .loop in let a = c .before .before .before .before .args in let g = c .before .before .rows-of .ensures in let e : l .window ≡ rows (a .image .now) Windows = omega arith in sym (subst (λ (n : ℕ). any n (inside (a .image .now) (a .piece)) ≡ false) e (l .inv .1))
+returns-2 c = let l = c .before .loop in let a = c .before .before .before .before .before .args in let g = c .before .before .rows-of .ensures in let e : l .window ≡ rows (a .image .now) Windows = omega arith in sym (subst (λ (n : ℕ). any n (inside (a .image .now) (a .piece)) ≡ false) e (l .inv .1))
 
 pub piece-inside-spec : {M : Type 1} → statement M
 piece-inside-spec =

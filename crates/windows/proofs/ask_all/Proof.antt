@@ -9,28 +9,28 @@ use Rattle.plan.specs.Questions.{pieceQuestions}
 use Rattle.plan.specs.Held.{Passed}
 use Rattle.plan.proofs.Asking.{passed-none, passed-more, passed-end, stopped-at}
 use Rattle.windows.proofs.Asked.{asked}
-use Rattle.windows.proofs.ask.Statement.{statement}
-use Rattle.windows.proofs.ask.Tie as tie
-use Rattle.windows.proofs.ask.Reads as reads
-use Rattle.windows.proofs.ask.Lts as lts
+use Rattle.windows.proofs.ask_all.Statement.{statement}
+use Rattle.windows.proofs.ask_all.Tie as tie
+use Rattle.windows.proofs.ask_all.Reads as reads
+use Rattle.windows.proofs.ask_all.Lts as lts
 use Rattle.plan.proofs.accepted.Reads as accepted-reads
 use Rattle.tables.proofs.shape_of.Reads as shape-of-reads
 use Rattle.windows.proofs.first_no.Reads as first-no-reads
 use Rattle.windows.proofs.table_of.Reads as table-of-reads
 
 abbrev Inv-loop : tie.InvT-loop
-Inv-loop image number₀ number = (7 ≤ number) × (number ≤ 14) × Passed (pieceQuestions image) (number - 7)
+Inv-loop image charges number₀ number = (7 ≤ number) × (number ≤ 14) × Passed (pieceQuestions image) (number - 7)
 
 abbrev μ-loop : tie.MeasureT-loop
-μ-loop image number₀ number = 14 - number
+μ-loop image charges number₀ number = 14 - number
 
 -- src/lib.rt:264:5
 loop-holds : tie.Need-loop-holds Inv-loop μ-loop
-loop-holds c = (omega arith, omega arith, passed-none (pieceQuestions (c .before .args .image .now)))
+loop-holds c = (omega arith, omega arith, passed-none (pieceQuestions (c .before .before .args .image .now)))
 
 -- src/lib.rt:265:15
 first-no-requires : tie.Need-first-no-requires Inv-loop μ-loop
-first-no-requires c κs = (c .before .before .before .pre, (omega arith, omega arith))
+first-no-requires c κs = let p = c .before .before .before .before .pre in ((p .0, (omega arith, omega arith)), p .1)
 
 -- src/lib.rt:266:23
 enum-known-row : tie.Need-enum-known-row Inv-loop μ-loop
@@ -47,7 +47,7 @@ shape-of-requires c κs = tt
 -- src/lib.rt:267:17
 returns : tie.Need-returns Inv-loop μ-loop
 unfolding pieceQuestions
-returns c = let l = c .before .before .before .before .before .before .before .loop in let n = l .number in let s = c .before .before .before .before .before .before .before .before .before .args .image .now in let q = pieceQuestions s in let a = asked s n (l .inv .0) (omega arith) in stopped-at q (n - 7) _ n _ (l .inv .2) (omega arith) (sym (c .before .before .before .before .before .first-no .ensures) ∙ c .before .before .before .row .given .1) (a .number) (a .table ∙ sym (ap (λ (x : Shape). x .number) (c .shape-of .ensures ∙ ap shape (c .before .table-of .ensures))))
+returns c = let l = c .before .before .before .before .before .before .before .loop in let n = l .number in let s = c .before .before .before .before .before .before .before .before .before .before .args .image .now in let q = pieceQuestions s in let a = asked s n (l .inv .0) (omega arith) in stopped-at q (n - 7) _ n _ (l .inv .2) (omega arith) (sym (c .before .before .before .before .before .first-no .ensures) ∙ c .before .before .before .row .given .1) (a .number) (a .table ∙ sym (ap (λ (x : Shape). x .number) (c .shape-of .ensures ∙ ap shape (c .before .table-of .ensures))))
 
 enum-told : tie.Need-enum-told Inv-loop μ-loop
 enum-told c = search needs
@@ -62,7 +62,7 @@ loop-less c = omega arith
 
 -- src/lib.rt:264:5
 loop-again : tie.Need-loop-again Inv-loop μ-loop
-loop-again c = let l = c .before .before .before .before .loop in let q = pieceQuestions (c .before .before .before .before .before .before .args .image .now) in let e : l .number + 1 - 7 ≡ suc (l .number - 7) = omega arith in (omega arith, omega arith, subst (Passed q) (sym e) (passed-more q (l .number - 7) (l .inv .2) (sym (c .before .before .first-no .ensures) ∙ c .enum-told .given .1)))
+loop-again c = let l = c .before .before .before .before .loop in let q = pieceQuestions (c .before .before .before .before .before .before .before .args .image .now) in let e : l .number + 1 - 7 ≡ suc (l .number - 7) = omega arith in (omega arith, omega arith, subst (Passed q) (sym e) (passed-more q (l .number - 7) (l .inv .2) (sym (c .before .before .first-no .ensures) ∙ c .enum-told .given .1)))
 
 -- src/lib.rt:277:5
 accepted-requires : tie.Need-accepted-requires Inv-loop μ-loop
@@ -71,10 +71,10 @@ accepted-requires c κs = tt
 -- src/lib.rt:259:1
 returns-2 : tie.Need-returns-2 Inv-loop μ-loop
 unfolding pieceQuestions
-returns-2 c = let l = c .before .before .loop in let q = pieceQuestions (c .before .before .before .before .args .image .now) in c .accepted .ensures ∙ sym (passed-end q (l .number - 7) (omega arith) (l .inv .2))
+returns-2 c = let l = c .before .before .loop in let q = pieceQuestions (c .before .before .before .before .before .args .image .now) in c .accepted .ensures ∙ sym (passed-end q (l .number - 7) (omega arith) (l .inv .2))
 
-pub ask-spec : {M : Type 1} → statement M
-ask-spec =
+pub ask-all-spec : {M : Type 1} → statement M
+ask-all-spec =
     tie.close
     (tie.spec
     Inv-loop

@@ -1,0 +1,47 @@
+"""What rows mean: which windows pay a VCPU switch."""
+import unittest
+
+from support import CASE_A
+
+from plans.meaning import Meaning
+from plans.reading import read_text
+
+
+def charges(*windows):
+    """The charges of windows (VCPU and span) on case A's core, v = 2, which has a second VCPU here."""
+    rows = "".join(f"window vcpu={vcpu} at={at}\n" for vcpu, at in windows)
+    text = CASE_A.replace("window vcpu=guest at=0..10\n", "vcpu second core=scanner\n" + rows)
+    meaning = Meaning(read_text("p.txt", text))
+    return [meaning.window_charge(number) for number in range(len(windows))]
+
+
+class Charges(unittest.TestCase):
+    def test_a_run_of_windows_pays_once(self):
+        self.assertEqual(charges(("guest", "0..4"), ("guest", "4..6"), ("guest", "6..10")), [2, 0, 0])
+
+    def test_row_order_is_open(self):
+        self.assertEqual(charges(("guest", "6..10"), ("guest", "4..6"), ("guest", "0..4")), [0, 0, 2])
+
+    def test_another_vcpu_before(self):
+        self.assertEqual(charges(("guest", "0..4"), ("second", "4..6"), ("guest", "6..10")), [2, 2, 2])
+
+    def test_a_tick_between(self):
+        self.assertEqual(charges(("guest", "0..3"), ("guest", "4..10")), [2, 2])
+
+    def test_windows_that_overlap_do_not_adjoin(self):
+        self.assertEqual(charges(("guest", "0..5"), ("guest", "4..10")), [2, 2])
+
+    def test_tick_0_always_pays(self):
+        self.assertEqual(charges(("guest", "0..4"), ("guest", "4..10")), [2, 0])
+        self.assertEqual(charges(("guest", "0..4"), ("guest", "0..0")), [2, 2])
+
+    def test_a_window_does_not_adjoin_itself(self):
+        self.assertEqual(charges(("guest", "4..4")), [2])
+        self.assertEqual(charges(("guest", "4..4"), ("guest", "4..4")), [0, 0])
+
+    def test_a_vcpu_that_is_not_there(self):
+        self.assertEqual(charges(("9", "0..4"), ("9", "4..6")), [0, 0])
+
+
+if __name__ == "__main__":
+    unittest.main()
