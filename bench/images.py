@@ -66,11 +66,11 @@ def slots(count):
     rows = {name: [] for name in NAMES}
     rows["core"] = [[0, 1, 1], [1, 1, 1]]
     rows["vcpu"] = [[0], [1]]
-    rows["link"] = [[0, 1, 1]]
+    rows["link"] = [[0, 1, 1, 352]]
     for number in range(count):
         first = 4 * number
         rows["task"] += [[vcpu, 3, period, 2, period] for vcpu in (0, 0, 1, 1)]
-        rows["stream"].append([first, first + 2, 0, 1, 2])
+        rows["stream"].append([first, first + 2, 0, 1, 46])
         rows["buffer"].append([number, first, first + 1])
         for k in range(8):
             start = k * period + 16 * number

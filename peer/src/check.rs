@@ -6,8 +6,8 @@
 use crate::answer::Answer;
 use crate::charges::charges;
 use crate::image::{
-    word_at, Plan, Trailer, BUFFER, CORE, FRAME, LINK, LONGEST, PIECE, ROW_BOUNDS, STREAM, TASK,
-    TRAILER, VCPU, WIDTHS, WINDOW, WORD,
+    word_at, Link, Plan, Trailer, BUFFER, CORE, FRAME, LINK, LONGEST, PIECE, ROW_BOUNDS, STREAM,
+    TASK, TRAILER, VCPU, WIDTHS, WINDOW, WORD,
 };
 use crate::intervals::{lowest_clash, Interval};
 use crate::jobs::{Job, Jobs};
@@ -121,16 +121,17 @@ fn ask_ranges(plan: &Plan) -> Result<(), Answer> {
         let divides = 1 <= period && cycle.is_multiple_of(period);
         divides && 1 <= budget && budget <= deadline && deadline <= period
     })?;
-    ask(6, LINK, &plan.links, |&[from, to, delay]| {
-        from <= 15 && to <= 15 && from != to && delay <= 1_000_000
+    ask(6, LINK, &plan.links, |&[from, to, delay, rate]| {
+        let ends = from <= 15 && to <= 15 && from != to;
+        ends && delay <= 1_000_000 && (1..=10_000).contains(&rate)
     })?;
     ask(
         6,
         STREAM,
         &plan.streams,
-        |&[sender, receiver, latency, hops, wire]| {
+        |&[sender, receiver, latency, hops, payload]| {
             let route = sender != receiver && (1..=8).contains(&hops);
-            route && latency <= 1_000_000 && (1..=cycle).contains(&wire)
+            route && latency <= 1_000_000 && (46..=1_500).contains(&payload)
         },
     )?;
     ask(6, BUFFER, &plan.buffers, |&[number, writer, reader]| {
@@ -252,10 +253,10 @@ fn ask_streams(plan: &Plan, jobs: &Jobs) -> Result<(), Answer> {
     network.ask_each_job(21, Network::is_in_time)
 }
 
-fn frame_in_job(plan: &Plan, &[stream, k, hop, _, start]: &[u32; 5]) -> bool {
-    let [sender, _, _, hops, wire] = plan.streams[stream as usize];
+fn frame_in_job(plan: &Plan, &[stream, k, hop, link, start]: &[u32; 5]) -> bool {
+    let [sender, _, _, hops, _] = plan.streams[stream as usize];
     let period = wide(plan.period(sender));
-    let end = wide(start) + wide(wire);
+    let end = wide(start) + wide(plan.frame_ticks(stream, link));
     let (from, until) = (wide(k) * period, (wide(k) + 1) * period);
     k < plan.jobs(sender) && hop < hops && from <= wide(start) && end <= until
 }
@@ -307,7 +308,7 @@ impl Network<'_> {
             })
     }
 
-    fn link_of(&self, frame: u32) -> [u32; 3] {
+    fn link_of(&self, frame: u32) -> Link {
         self.plan.links[self.plan.frames[frame as usize][3] as usize]
     }
 
@@ -315,7 +316,7 @@ impl Network<'_> {
     fn is_walk(&self, message: &Message) -> bool {
         let mut node = self.plan.node_of_task(message.stream[0]);
         for &frame in message.hops {
-            let [from, to, _] = self.link_of(frame);
+            let [from, to, ..] = self.link_of(frame);
             if from != node {
                 return false;
             }
@@ -328,9 +329,9 @@ impl Network<'_> {
     /// end + delay + P.
     fn arrival(&self, frame: u32) -> u64 {
         let [stream, _, _, link, start] = self.plan.frames[frame as usize];
-        let wire = self.plan.streams[stream as usize][4];
+        let end = wide(start) + wide(self.plan.frame_ticks(stream, link));
         let delay = self.plan.links[link as usize][2];
-        wide(start) + wide(wire) + wide(delay) + wide(self.plan.precision)
+        end + wide(delay) + wide(self.plan.precision)
     }
 
     /// Question 18 for one frame.
@@ -348,7 +349,7 @@ impl Network<'_> {
         let on_link = |(row, &[stream, _, _, link, start]): (usize, &[u32; 5])| Interval {
             place: link,
             start,
-            end: start + self.plan.streams[stream as usize][4],
+            end: start + self.plan.frame_ticks(stream, link),
             row: row as u32,
         };
         self.plan.frames.iter().enumerate().map(on_link).collect()

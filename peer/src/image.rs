@@ -2,10 +2,6 @@
 
 /// Bytes of a word.
 pub const WORD: usize = 4;
-/// Bytes of the trailer with the last word.
-pub const TRAILER: usize = 84;
-/// The longest image: every table at its highest row count.
-pub const LONGEST: usize = 63_956;
 
 /// The tables' numbers.
 pub const CORE: u32 = 1;
@@ -18,8 +14,9 @@ pub const STREAM: u32 = 7;
 pub const FRAME: u32 = 8;
 pub const BUFFER: u32 = 9;
 
-/// Words of a row, table by table.
-pub const WIDTHS: [usize; 9] = [3, 1, 5, 3, 4, 3, 5, 5, 3];
+/// Words of a row, table by table. All sizes follow from these and from the
+/// highest row counts.
+pub const WIDTHS: [usize; 9] = [3, 1, 5, 3, 4, 4, 5, 5, 3];
 /// The least and the highest row count, table by table.
 pub const ROW_BOUNDS: [(u32, u32); 9] = [
     (1, 32),
@@ -33,6 +30,33 @@ pub const ROW_BOUNDS: [(u32, u32); 9] = [
     (0, 64),
 ];
 
+/// Words of a table's row.
+pub const fn width(table: u32) -> usize {
+    WIDTHS[table as usize - 1]
+}
+
+/// Bytes of the trailer with the last word: H, P, an offset and a count for
+/// each table, and that word itself.
+pub const TRAILER: usize = (2 + 2 * WIDTHS.len() + 1) * WORD;
+
+/// The longest image: every table at its highest row count.
+pub const LONGEST: usize = {
+    let mut length = TRAILER;
+    let mut table = 0;
+    while table < WIDTHS.len() {
+        length += WIDTHS[table] * WORD * ROW_BOUNDS[table].1 as usize;
+        table += 1;
+    }
+    length
+};
+
+/// from node, to node, delay, rate
+pub type Link = [u32; width(LINK)];
+
+/// Bytes of a frame besides its payload: header, check, preamble and gap of
+/// tagged Ethernet.
+const FRAMING: u32 = 42;
+
 /// A plan as plain rows, each an array of its words in the paper's order.
 #[derive(Clone, Debug, Default, PartialEq, Eq)]
 pub struct Plan {
@@ -41,23 +65,23 @@ pub struct Plan {
     /// P
     pub precision: u32,
     /// node, d, v
-    pub cores: Vec<[u32; 3]>,
+    pub cores: Vec<[u32; width(CORE)]>,
     /// core
-    pub vcpus: Vec<[u32; 1]>,
+    pub vcpus: Vec<[u32; width(VCPU)]>,
     /// VCPU, core mask, period T, budget C, deadline D
-    pub tasks: Vec<[u32; 5]>,
+    pub tasks: Vec<[u32; width(TASK)]>,
     /// VCPU, start, length
-    pub windows: Vec<[u32; 3]>,
+    pub windows: Vec<[u32; width(WINDOW)]>,
     /// task, job k, start, length
-    pub pieces: Vec<[u32; 4]>,
-    /// from node, to node, delay
-    pub links: Vec<[u32; 3]>,
-    /// sender task, receiver task, latency E, hops, wire ticks L
-    pub streams: Vec<[u32; 5]>,
+    pub pieces: Vec<[u32; width(PIECE)]>,
+    /// from node, to node, delay, rate
+    pub links: Vec<Link>,
+    /// sender task, receiver task, latency E, hops, payload
+    pub streams: Vec<[u32; width(STREAM)]>,
     /// stream, job k, hop, link, start
-    pub frames: Vec<[u32; 5]>,
+    pub frames: Vec<[u32; width(FRAME)]>,
     /// buffer number, writer task, reader task
-    pub buffers: Vec<[u32; 3]>,
+    pub buffers: Vec<[u32; width(BUFFER)]>,
 }
 
 /// What the trailer says: H, P, and each table's byte offset and row count.
@@ -190,6 +214,14 @@ impl Plan {
             None => self.cores[lane][0],
             Some(link) => self.links[link][0],
         }
+    }
+
+    /// The ticks that a frame of the stream takes on the link, where payload
+    /// and rate are in range.
+    pub fn frame_ticks(&self, stream: u32, link: u32) -> u32 {
+        let [_, _, _, _, payload] = self.streams[stream as usize];
+        let [_, _, _, rate] = self.links[link as usize];
+        (8 * (payload + FRAMING)).div_ceil(rate)
     }
 
     /// The number of jobs of a task in the cycle, H/T.

@@ -10,7 +10,7 @@ use crate::dispatch::State;
 type Number = i128;
 
 /// By table number; the tables count from 1.
-const WORDS_OF_A_ROW: [Number; 10] = [0, 3, 1, 5, 3, 4, 3, 5, 5, 3];
+const WORDS_OF_A_ROW: [Number; 10] = [0, 3, 1, 5, 3, 4, 4, 5, 5, 3];
 const LEAST_ROWS: [Number; 10] = [0, 1, 0, 0, 0, 0, 0, 0, 0, 0];
 const MOST_ROWS: [Number; 10] = [0, 32, 64, 256, 1024, 2048, 64, 64, 512, 64];
 
@@ -195,6 +195,9 @@ impl Image<'_> {
     fn delay(&self, link: Number) -> Number {
         self.cell(LINK, link, 2)
     }
+    fn rate(&self, link: Number) -> Number {
+        self.cell(LINK, link, 3)
+    }
     fn sender(&self, stream: Number) -> Number {
         self.cell(STREAM, stream, 0)
     }
@@ -207,7 +210,7 @@ impl Image<'_> {
     fn hops(&self, stream: Number) -> Number {
         self.cell(STREAM, stream, 3)
     }
-    fn wire(&self, stream: Number) -> Number {
+    fn payload(&self, stream: Number) -> Number {
         self.cell(STREAM, stream, 4)
     }
     fn frame_stream(&self, frame: Number) -> Number {
@@ -226,7 +229,7 @@ impl Image<'_> {
         self.cell(FRAME, frame, 4)
     }
     fn frame_end(&self, frame: Number) -> Number {
-        self.frame_start(frame) + self.wire(self.frame_stream(frame))
+        self.frame_start(frame) + self.frame_length(frame)
     }
     fn buffer_number(&self, buffer: Number) -> Number {
         self.cell(BUFFER, buffer, 0)
@@ -264,6 +267,17 @@ impl Image<'_> {
             return 0;
         }
         self.v(self.window_core(window))
+    }
+
+    /// 8 × (payload + 42) / rate ticks, rounded up, on the frame's own link.
+    fn frame_length(&self, frame: Number) -> Number {
+        let bits = 8 * (self.payload(self.frame_stream(frame)) + 42);
+        let rate = self.rate(self.frame_link(frame));
+        if bits % rate == 0 {
+            bits / rate
+        } else {
+            bits / rate + 1
+        }
     }
 
     fn pieces_of(&self, task: Number, job: Number) -> Vec<Number> {
@@ -311,7 +325,7 @@ fn overlap(a: Number, b: Number, c: Number, d: Number) -> bool {
 impl Image<'_> {
     fn question(&self, number: u32) -> Option<No> {
         match number {
-            1 => plain((84..=63_956).contains(&self.length())),
+            1 => plain((84..=64_212).contains(&self.length())),
             2 => plain(self.last_word() == self.length() - 84),
             3 => plain(self.layout_is_right()),
             4 => plain((1..=1_000_000).contains(&self.cycle()) && self.precision() <= 10_000),
@@ -392,12 +406,13 @@ impl Image<'_> {
                     && self.link_to(row) <= 15
                     && self.link_from(row) != self.link_to(row)
                     && self.delay(row) <= 1_000_000
+                    && (1..=10_000).contains(&self.rate(row))
             }
             STREAM => {
                 self.sender(row) != self.receiver(row)
                     && self.latency(row) <= 1_000_000
                     && (1..=8).contains(&self.hops(row))
-                    && (1..=self.cycle()).contains(&self.wire(row))
+                    && (46..=1_500).contains(&self.payload(row))
             }
             BUFFER => self.buffer_number(row) <= 63 && self.writer(row) != self.reader(row),
             _ => true,

@@ -140,7 +140,7 @@ fn core_pieces(plan: &Plan, core: u32) -> Vec<Stretch> {
 
 fn link_frames(plan: &Plan, link: u32) -> Vec<Stretch> {
     let on_link = |(row, &[stream, _, _, carrier, start]): (usize, &[u32; 5])| {
-        let end = start + plan.streams[stream as usize][4];
+        let end = start + plan.frame_ticks(stream, carrier);
         (carrier == link).then_some((start, end, row as u32))
     };
     sorted(plan.frames.iter().enumerate().filter_map(on_link))

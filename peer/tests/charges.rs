@@ -145,7 +145,7 @@ impl Reading {
 #[test]
 fn mutants_show_every_wrong_reading() {
     let mut shown = [0; WRONG.len()];
-    for case in 0..8_000 {
+    for case in 0..12_000 {
         let mut rng = Rng::for_case(22, case);
         let image = if rng.chance(30) {
             let plan = kept_core(&mut rng);

@@ -139,10 +139,10 @@ fn shaken_plans() {
                 }),
                 3 => plan.buffers.iter_mut().for_each(|row| row[0] %= 2),
                 4 => plan.streams.iter_mut().for_each(|row| {
-                    shaken(&mut row[2], &mut rng);
+                    shaken(&mut row[rng.pick(&[2, 4])], &mut rng);
                 }),
                 5 => plan.links.iter_mut().for_each(|row| {
-                    shaken(&mut row[2], &mut rng);
+                    shaken(&mut row[rng.within(2..=3) as usize], &mut rng);
                 }),
                 6 => shaken(&mut plan.precision, &mut rng),
                 _ => plan.windows.iter_mut().for_each(|row| {
@@ -169,15 +169,18 @@ fn rough_messages() {
         let links = plan.links.len();
         let loose = rng.chance(60);
         for stream in &mut plan.streams {
-            stream[4] = stream[4].min(2);
+            stream[4] = rng.pick(&[46, 46, 47, 134]);
+        }
+        for link in &mut plan.links {
+            link[3] = rng.pick(&[704, 704, 703, 352, 10_000]);
         }
         for row in 0..plan.frames.len() {
-            let [stream, k, ..] = plan.frames[row];
-            let [sender, _, _, _, wire] = plan.streams[stream as usize];
+            let [stream, k, _, link, _] = plan.frames[row];
+            let [sender, ..] = plan.streams[stream as usize];
             let period = plan.period(sender);
             if loose || rng.chance(30) {
-                let start = k * period + rng.within(0..=period - wire);
-                plan.frames[row][4] = start;
+                let room = period.saturating_sub(plan.frame_ticks(stream, link));
+                plan.frames[row][4] = k * period + rng.within(0..=room);
             }
             if rng.chance(10) {
                 plan.frames[row][3] = rng.below(links) as u32;

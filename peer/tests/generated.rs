@@ -37,7 +37,7 @@ fn every_shape_is_accepted() {
 fn full_plans_have_every_row() {
     let plan = full(&mut Rng::new(3));
     assert_eq!(plan.counts(), [32, 64, 256, 1024, 2048, 64, 64, 512, 64]);
-    assert_eq!(plan.encode().len(), 63_956);
+    assert_eq!(plan.encode().len(), 64_212);
 }
 
 /// An accepted plan stays one, however often its windows are cut where no
@@ -164,6 +164,58 @@ fn windows_pay_or_do_not() {
     all_met(accepted, 60, &features);
     all_met(kept_core, 300, &features);
     all_met(tiny, 60, &features);
+}
+
+#[test]
+fn rates_are_many() {
+    let features: [(&str, Feature); 8] = [
+        ("a frame of one tick", |plan| {
+            plan.frames.iter().any(|frame| ticks(plan, frame) == 1)
+        }),
+        ("a frame of several ticks", |plan| {
+            plan.frames.iter().any(|frame| ticks(plan, frame) > 1)
+        }),
+        ("a frame that fills its ticks", |plan| {
+            plan.frames.iter().any(|frame| bits_over(plan, frame) == 0)
+        }),
+        ("the same in several ticks", |plan| {
+            let mut frames = plan.frames.iter();
+            frames.any(|frame| bits_over(plan, frame) == 0 && ticks(plan, frame) > 1)
+        }),
+        ("a frame that does not", |plan| {
+            plan.frames.iter().any(|frame| bits_over(plan, frame) > 0)
+        }),
+        ("a byte or less too long for fewer ticks", |plan| {
+            let mut frames = plan.frames.iter();
+            frames.any(|frame| (1..=8).contains(&bits_over(plan, frame)) && ticks(plan, frame) > 1)
+        }),
+        ("one message at several rates", |plan| {
+            hops_differ(plan, |plan, frame| plan.links[frame[3] as usize][3])
+        }),
+        ("one message of several lengths", |plan| {
+            hops_differ(plan, ticks)
+        }),
+    ];
+    all_met(accepted, 40, &features);
+    all_met(tiny, 100, &features);
+}
+
+fn ticks(plan: &Plan, frame: &[u32; 5]) -> u32 {
+    plan.frame_ticks(frame[0], frame[3])
+}
+
+/// The bits of a frame in a tick that they do not fill.
+fn bits_over(plan: &Plan, frame: &[u32; 5]) -> u32 {
+    let payload = plan.streams[frame[0] as usize][4];
+    8 * (payload + 42) % plan.links[frame[3] as usize][3]
+}
+
+/// Whether something differs between frames of one message.
+fn hops_differ(plan: &Plan, of: fn(&Plan, &[u32; 5]) -> u32) -> bool {
+    plan.frames.iter().any(|a| {
+        let mut others = plan.frames.iter().filter(|b| a[..2] == b[..2]);
+        others.any(|b| of(plan, a) != of(plan, b))
+    })
 }
 
 /// Whether it holds for a window of a VCPU whose switch takes time.

@@ -3,6 +3,7 @@
 mod cases;
 
 use cases::{case_a, case_b};
+use peer::image::{LONGEST, TRAILER};
 use peer::{build, check, naive, report, start, step, step_all, Answer, Plan, State};
 
 #[track_caller]
@@ -304,4 +305,113 @@ fn windows_that_continue_show_no_switch() {
     let text = report(&a_with(&[[0, 6, 4], [0, 5, 1], [0, 0, 5]], 6).encode());
     let lines = ["0 0 0", "0 0 1 2", "0 2 2 2", "0 5 2 1", "0 6 3 0"];
     assert_eq!(text, [&lines[..], &["0 7 4 0", ""]].concat().join("\n"));
+}
+
+/// Request 2: ports of different speed. Case B has L = 2 and no tick to spare.
+#[test]
+fn b_at_other_rates() {
+    for (rate, number, table) in [
+        (0, 6, 6),
+        (1, 15, 8),
+        (235, 20, 7),
+        (351, 20, 7),
+        (352, 0, 0),
+        (353, 0, 0),
+        (703, 0, 0),
+        (704, 0, 0),
+        (10_000, 0, 0),
+        (10_001, 6, 6),
+        (u32::MAX, 6, 6),
+    ] {
+        changed(case_b(), |plan| plan.links[0][3] = rate, number, table, 0);
+    }
+}
+
+#[test]
+fn b_with_other_payloads() {
+    for (payload, number, table) in [
+        (0, 6, 7),
+        (45, 6, 7),
+        (46, 0, 0),
+        (47, 20, 7),
+        (574, 20, 7),
+        (575, 15, 8),
+        (1_500, 15, 8),
+        (1_501, 6, 7),
+        (u32::MAX, 6, 7),
+        (u32::MAX - 41, 6, 7),
+    ] {
+        changed(
+            case_b(),
+            |plan| plan.streams[0][4] = payload,
+            number,
+            table,
+            0,
+        );
+    }
+}
+
+/// Question 6 no longer asks for a length of at most H.
+#[test]
+fn a_stream_may_be_too_long_for_its_cycle() {
+    let mut plan = case_b();
+    plan.links[0][3] = 1;
+    plan.frames.clear();
+    expect(&plan.encode(), 16, 7, 0);
+}
+
+/// Case B over two links of different rates, with a cycle of 60 ticks: frames
+/// take 1 and 8 ticks, or the other way round.
+fn two_hops(rates: [u32; 2], second_start: u32) -> Plan {
+    let mut plan = case_b();
+    plan.cycle = 60;
+    plan.tasks = vec![[0, 3, 60, 3, 60], [1, 3, 60, 3, 60]];
+    plan.windows = vec![[0, 0, 60], [1, 0, 60]];
+    plan.links = vec![[0, 2, 3, rates[0]], [2, 1, 5, rates[1]]];
+    plan.streams = vec![[0, 1, 0, 2, 46]];
+    plan.frames = vec![[0, 0, 0, 0, 6], [0, 0, 1, 1, second_start]];
+    plan.pieces[1][2] = 40;
+    plan
+}
+
+#[test]
+fn each_hop_has_its_own_rate() {
+    // 6 + 1 + 3 + 1, and 6 + 8 + 3 + 1.
+    expect(&two_hops([704, 88], 11).encode(), 0, 0, 0);
+    expect(&two_hops([704, 88], 10).encode(), 18, 8, 1);
+    expect(&two_hops([88, 704], 18).encode(), 0, 0, 0);
+    expect(&two_hops([88, 704], 17).encode(), 18, 8, 1);
+    // 26 + 8 + 5 + 1, and 33 + 1 + 5 + 1.
+    expect(&two_hops([704, 88], 26).encode(), 0, 0, 0);
+    expect(&two_hops([704, 88], 27).encode(), 20, 7, 0);
+    expect(&two_hops([88, 704], 33).encode(), 0, 0, 0);
+    expect(&two_hops([88, 704], 34).encode(), 20, 7, 0);
+    let text = report(&two_hops([704, 88], 11).encode());
+    let lines: Vec<&str> = text.lines().collect();
+    let links = ["2 0 0 0", "2 6 5 0", "2 7 0 0", "3 0 0 0", "3 11 5 1"];
+    assert_eq!(lines[lines.len() - 6..lines.len() - 1], links);
+    assert_eq!(lines[lines.len() - 1], "3 19 0 0");
+}
+
+/// The paper's sizes, which the code reckons from widths and counts.
+#[test]
+fn sizes_are_the_papers() {
+    assert_eq!((TRAILER, LONGEST), (84, 64_212));
+}
+
+/// An image of case B with link rows of three words.
+#[test]
+fn old_link_rows_are_refused() {
+    let plan = case_b();
+    let mut image = plan.encode();
+    let begin = 4 * (2 * 3 + 2 + 2 * 5 + 2 * 3 + 2 * 4);
+    image.drain(begin + 12..begin + 16);
+    let length = image.len();
+    for table in 7..=9 {
+        let at = length - 84 + 8 * table;
+        let offset = u32::from_le_bytes([image[at], image[at + 1], 0, 0]);
+        image[at..at + 4].copy_from_slice(&(offset - 4).to_le_bytes());
+    }
+    image[length - 4..].copy_from_slice(&(length as u32 - 84).to_le_bytes());
+    expect(&image, 3, 0, 0);
 }

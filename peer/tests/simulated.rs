@@ -288,7 +288,7 @@ type Promise = fn(&mut Plan);
 /// Each claim fails for a reason of its own. Case B meets its limits exactly.
 #[test]
 fn each_claim_fails_alone() {
-    let promises: [(Promise, &[Claim]); 10] = [
+    let promises: [(Promise, &[Claim]); 13] = [
         (|_| (), &[]),
         (|plan| plan.tasks[0][3] -= 1, &[Claim::Budget]),
         (|plan| plan.vcpus[1] = [0], &[Claim::Core]),
@@ -298,6 +298,9 @@ fn each_claim_fails_alone() {
         (|plan| plan.windows[0] = [0, 1, 5], &[]),
         (|plan| plan.links[0][2] += 1, &[Claim::Arrived]),
         (|plan| plan.streams[0][4] += 1, &[Claim::Arrived]),
+        (|plan| plan.links[0][3] -= 1, &[Claim::Arrived]),
+        (|plan| plan.links[0][3] += 1, &[]),
+        (|plan| plan.links[0][3] *= 2, &[]),
         (|plan| plan.streams[0][2] -= 1, &[Claim::Latency]),
     ];
     for (number, (promise, claims)) in promises.into_iter().enumerate() {

@@ -2,12 +2,10 @@
 from dataclasses import dataclass, field
 
 from .columns import word
-from .image import raw_words
+from .image import raw_limits
 from .schema import BY_KIND, KINDS, SETTINGS, Table
 from .statements import pairs, split_name
 from .troubles import BadValue, Place, meant
-
-LONGEST_RAW = 2 ** 20
 
 
 @dataclass
@@ -113,8 +111,9 @@ class Drafts:
         return draft
 
     def _raw(self, place, words):
-        for key, value in pairs("raw", words, [*raw_words(), "length"]).items():
+        limits = raw_limits()
+        for key, value in pairs("raw", words, list(limits)).items():
             number = word(value)
-            if key == "length" and number > LONGEST_RAW:
-                raise BadValue(f"length={value} is past {LONGEST_RAW}")
+            if number > limits[key]:
+                raise BadValue(f"{key}={value} is past {limits[key]}")
             self.raw.append((key, number))

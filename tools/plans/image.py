@@ -1,10 +1,12 @@
 """Plan images: bytes to rows and back, and broken images on purpose (raw)."""
 import struct
 
-from .columns import WORD_BYTES
+from .columns import HIGHEST, WORD_BYTES
 from .model import Plan
 from .schema import KINDS, LONGEST, SETTINGS, TABLES, TRAILER_BYTES, TRAILER_WORDS
 from .troubles import BadValue
+
+LONGEST_RAW = 2 ** 20  # bytes of an image made on purpose
 
 
 def pack(words):
@@ -17,13 +19,20 @@ def unpack(data):
 
 def encode(plan):
     """The image of a plan, with its raw changes."""
-    body, places = b"", []
+    body, places, cuts = b"", [], dict(plan.raw)
     for table in TABLES:
-        rows = plan.rows[table.kind]
+        rows, words = plan.rows[table.kind], cuts.get(f"{table.kind}.words", table.row_words)
         places += [len(body), len(rows)]
-        body += b"".join(pack(row) for row in rows)
+        body += b"".join(pack(row[:words]) for row in rows)
     image = body + pack([*plan.settings, *places, len(body)])
     return apply_raw(image, len(body), plan.raw)
+
+
+def raw_limits():
+    """All that raw changes name, each with the highest value it may get."""
+    limits = dict.fromkeys(raw_words(), HIGHEST)
+    limits.update({f"{table.kind}.words": table.row_words for table in TABLES})
+    return {**limits, "length": LONGEST_RAW}
 
 
 def raw_words():
@@ -42,7 +51,7 @@ def apply_raw(image, trailer, changes):
     for key, value in changes:
         if key == "length":
             data = data[:value].ljust(value, b"\0")
-        else:
+        elif key in words:
             at = trailer + WORD_BYTES * words[key]
             data[at:at + WORD_BYTES] = pack([value])
     return bytes(data)
@@ -76,7 +85,7 @@ def _tables(image, trailer, places):
         if end > trailer:
             raise unreadable(3, f"table {table.kind} ends at byte {end}, past the trailer at {trailer}")
         words = unpack(image[at:end])
-        rows[table.kind] = [table.record(*row) for row in zip(*[iter(words)] * (table.row_bytes // WORD_BYTES))]
+        rows[table.kind] = [table.record(*row) for row in zip(*[iter(words)] * table.row_words)]
         at = end
     if at != trailer:
         raise unreadable(3, f"the tables end at byte {at}, the trailer starts at {trailer}")

@@ -89,7 +89,10 @@ EXTRAS = {
         "core": lambda plan, meaning, number: _core_name(plan, meaning.core_of_piece(number)),
         "work": _work,
     },
-    "frame": {"end": _frame_end},
+    "frame": {
+        "ticks": lambda plan, meaning, number: meaning.frame_ticks(number),
+        "end": _frame_end,
+    },
 }
 
 

@@ -6,6 +6,9 @@ a piece have no first start and last end.
 from collections import defaultdict
 from dataclasses import dataclass
 
+AROUND_PAYLOAD = 42  # bytes of a tagged Ethernet frame besides its payload: header, check, preamble and gap
+BITS_OF_BYTE = 8
+
 
 @dataclass(frozen=True)
 class Job:
@@ -118,9 +121,13 @@ class Meaning:
         return 0 if core is None else self.plan.rows["core"][core].d
 
     def frame_ticks(self, frame):
-        """The ticks a frame takes on its link."""
-        stream = self.plan.row("stream", self.plan.rows["frame"][frame].stream)
-        return stream.wire if stream else 0
+        """The ticks a frame takes on its own link, a part of a tick counted whole; 0 where stream, link or rate is none."""
+        row = self.plan.rows["frame"][frame]
+        stream, link = self.plan.row("stream", row.stream), self.plan.row("link", row.link)
+        if not stream or not link or not link.rate:
+            return 0
+        bits = BITS_OF_BYTE * (stream.payload + AROUND_PAYLOAD)
+        return -(-bits // link.rate)
 
     def job_count(self, task):
         """H/T, rounded down; 0 for a task that is not there."""

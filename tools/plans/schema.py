@@ -18,7 +18,8 @@ class Table:
         self.keys = [column.key for column in columns]
         fields = [field for column in columns for field in column.fields]
         self.record = namedtuple(kind, fields)
-        self.row_bytes = WORD_BYTES * len(fields)
+        self.row_words = len(fields)
+        self.row_bytes = WORD_BYTES * self.row_words
 
 
 TABLES = (
@@ -27,8 +28,8 @@ TABLES = (
     Table("task", 0, 256, RowOf("vcpu"), Mask("cores", "core"), Number("period"), Number("budget"), Number("deadline")),
     Table("window", 0, 1024, RowOf("vcpu"), Span("at")),
     Table("piece", 0, 2048, RowOf("task"), Number("job"), Span("at")),
-    Table("link", 0, 64, Number("from", "from_node"), Number("to", "to_node"), Number("delay")),
-    Table("stream", 0, 64, RowOf("sender", "task"), RowOf("receiver", "task"), Number("latency"), Number("hops"), Number("wire")),
+    Table("link", 0, 64, Number("from", "from_node"), Number("to", "to_node"), Number("delay"), Number("rate")),
+    Table("stream", 0, 64, RowOf("sender", "task"), RowOf("receiver", "task"), Number("latency"), Number("hops"), Number("payload")),
     Table("frame", 0, 512, RowOf("stream"), Number("job"), Number("hop"), RowOf("link"), Number("at", "start")),
     Table("buffer", 0, 64, Number("number"), RowOf("writer", "task"), RowOf("reader", "task")),
 )

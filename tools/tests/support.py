@@ -1,4 +1,5 @@
 """What the tests share: the tools on the path, images from the independent generator, small plans as text."""
+import os
 import subprocess
 import sys
 from functools import lru_cache
@@ -7,7 +8,7 @@ from pathlib import Path
 TOOLS = Path(__file__).resolve().parent.parent
 ROOT = TOOLS.parent
 EXAMPLES = ROOT / "examples" / "plans"
-GENERATE = ROOT / "peer" / "target" / "release" / "generate"
+PEER = ROOT / "peer"
 sys.path.insert(0, str(TOOLS))
 
 SHAPES = ("bare", "units", "small", "medium", "rich", "large", "busy", "full")
@@ -15,11 +16,12 @@ SHAPES = ("bare", "units", "small", "medium", "rich", "large", "busy", "full")
 
 @lru_cache(maxsize=None)
 def generator():
-    """The generator's path; built where it is not there yet."""
-    if not GENERATE.exists():
-        manifest = ROOT / "peer" / "Cargo.toml"
-        subprocess.run(["cargo", "build", "--quiet", "--release", "--offline", "--manifest-path", manifest], check=True)
-    return str(GENERATE)
+    """The generator's path: $GENERATE, else the independent checker's, built first, since it follows the image's layout."""
+    if os.environ.get("GENERATE"):
+        return os.environ["GENERATE"]
+    command = ["cargo", "build", "--quiet", "--release", "--offline", "--manifest-path", PEER / "Cargo.toml"]
+    subprocess.run(command, check=True)
+    return str(PEER / "target" / "release" / "generate")
 
 
 @lru_cache(maxsize=None)

@@ -37,6 +37,13 @@ class Listings(unittest.TestCase):
         self.assertIn(["labels", "0", "receiver", "sort", "10", "10", "14", "0"], lines)
         self.assertIn(["labels", "0", "latency", "13", "of", "13", "0"], lines)
 
+    def test_frames_end_by_their_links_rate(self):
+        lines = words("two-rates")
+        self.assertIn(["0", "frame0", "labels", "0", "0", "cable", "6", "2", "8"], lines)
+        self.assertIn(["1", "frame1", "labels", "0", "1", "onward", "10", "4", "14"], lines)
+        self.assertIn(["labels", "0", "hop", "1", "frame1", "on", "onward", "10", "10", "14", "0"], lines)
+        self.assertIn(["labels", "0", "receiver", "sort", "17", "16", "20", "-1", "!"], words("q20-rounded-up"))
+
     def test_default_latency(self):
         self.assertIn(["labels", "0", "latency", "22", "of", "20", "-2", "!"], words("q21-default-latency"))
 

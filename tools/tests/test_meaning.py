@@ -1,8 +1,9 @@
-"""What rows mean: which windows pay a VCPU switch."""
+"""What rows mean: which windows pay a VCPU switch, and how many ticks a frame takes."""
 import unittest
 
-from support import CASE_A
+from support import CASE_A, EXAMPLES
 
+from plans.files import load
 from plans.meaning import Meaning
 from plans.reading import read_text
 
@@ -41,6 +42,34 @@ class Charges(unittest.TestCase):
 
     def test_a_vcpu_that_is_not_there(self):
         self.assertEqual(charges(("9", "0..4"), ("9", "4..6")), [0, 0])
+
+
+def ticks(payload, rate, link="cable"):
+    """The ticks of a frame with this payload on a link of this rate."""
+    text = CASE_A + f"""link cable from=0 to=1 delay=1 rate={rate}
+stream labels sender=0 receiver=1 latency=0 hops=1 payload={payload}
+frame stream=labels job=0 hop=0 link={link} at=6
+"""
+    return Meaning(read_text("p.txt", text)).frame_ticks(0)
+
+
+class FrameTicks(unittest.TestCase):
+    def test_whole_ticks(self):
+        self.assertEqual((ticks(46, 352), ticks(46, 704), ticks(46, 176)), (2, 1, 4))
+
+    def test_a_part_of_a_tick_counts_whole(self):
+        self.assertEqual((ticks(46, 351), ticks(46, 175), ticks(46, 703)), (3, 5, 2))
+
+    def test_ends_of_the_ranges(self):
+        self.assertEqual((ticks(46, 1), ticks(1500, 1)), (704, 12336))
+        self.assertEqual((ticks(46, 10000), ticks(1500, 10000)), (1, 2))
+
+    def test_each_link_has_its_own(self):
+        meaning = Meaning(load(EXAMPLES / "two-rates.txt"))
+        self.assertEqual([meaning.frame_ticks(frame) for frame in (0, 1)], [2, 4])
+
+    def test_no_rate_and_no_link(self):
+        self.assertEqual((ticks(46, 0), ticks(46, 352, link=1)), (0, 0))
 
 
 if __name__ == "__main__":

@@ -62,6 +62,13 @@ class Pictures(unittest.TestCase):
         (piece,) = blocks
         self.assertAlmostEqual(float(piece.get("width")), 0.4 * 900)
 
+    def test_frames_are_as_long_as_their_links_rate_makes_them(self):
+        elements = drawn(*example("two-rates"))
+        blocks = [element for element in elements if element.tag == SVG + "rect" and len(element)]
+        widths = {block[0].text.split(":")[0]: float(block.get("width")) for block in blocks}
+        self.assertAlmostEqual(widths["frame1"], 2 * widths["frame0"], delta=0.2)
+        self.assertIn("delay 1, rate 200", texts(elements))
+
     def test_a_vcpu_that_keeps_its_core_has_no_switch(self):
         """Of four windows the first and the last, another VCPU's, show switch ticks; the legend shows some too."""
         plan, answer = example("kept-core")

@@ -25,10 +25,10 @@ def again(image):
 def readable(image):
     """Questions 1 to 3 by their words, apart from the tool's own reading."""
     word = lambda at: int.from_bytes(image[at:at + 4], "little")
-    if not 84 <= len(image) <= 63956 or word(len(image) - 4) != len(image) - 84:
+    if not 84 <= len(image) <= 64212 or word(len(image) - 4) != len(image) - 84:
         return False
     at, trailer = 0, len(image) - 84
-    widths, bounds = (3, 1, 5, 3, 4, 3, 5, 5, 3), (32, 64, 256, 1024, 2048, 64, 64, 512, 64)
+    widths, bounds = (3, 1, 5, 3, 4, 4, 5, 5, 3), (32, 64, 256, 1024, 2048, 64, 64, 512, 64)
     for table in range(9):
         offset, rows = word(trailer + 8 + 8 * table), word(trailer + 12 + 8 * table)
         if offset != at or rows > bounds[table] or rows < (table == 0):

@@ -31,7 +31,7 @@ class Reading(unittest.TestCase):
         self.assertEqual(len(expected), 148)
 
     def test_sizes_are_the_papers(self):
-        self.assertEqual((TRAILER_BYTES, LONGEST), (84, 63956))
+        self.assertEqual((TRAILER_BYTES, LONGEST), (84, 64212))
 
     def test_rows_by_number_and_name_are_the_same(self):
         by_number = case_a_with(4, "task decode vcpu=0 cores=0 period=10 budget=3 deadline=8")
@@ -72,8 +72,16 @@ class Reading(unittest.TestCase):
             ("length=3", image[:3]),
             ("core.rows=2", image[:76] + b"\2" + image[77:]),
             ("vcpu.offset=16", image[:80] + b"\x10" + image[81:]),
+            ("core.words=3", image),
         ):
             self.assertEqual(encode(read_text("p.txt", CASE_A + f"raw {raw}\n")), expected, raw)
+
+    def test_rows_cut_short(self):
+        """Later tables move down with the words that go, and the trailer tells where they are."""
+        image = encode(read_text("p.txt", CASE_A + "raw core.words=2\n"))
+        words = [int.from_bytes(image[at:at + 4], "little") for at in range(0, len(image), 4)]
+        self.assertEqual(words[:4], [0, 1, 0, 0])
+        self.assertEqual((words[-21:-15], words[-1], len(image)), ([10, 0, 0, 1, 8, 1], 60, 144))
 
     def test_comments_tabs_and_line_ends(self):
         text = CASE_A.replace(" ", "\t").replace("\n", "  # why\r\n") + "# end"
@@ -169,6 +177,7 @@ class BadText(unittest.TestCase):
     def test_raw(self):
         self.expect(CASE_A + "raw last=63\n", "p.txt:7: raw has no key 'last'")
         self.expect(CASE_A + "raw length=9999999\n", "p.txt:7: length=9999999 is past")
+        self.expect(CASE_A + "raw link.words=5\n", "p.txt:7: link.words=5 is past 4")
 
 
 class Bases(unittest.TestCase):

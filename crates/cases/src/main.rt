@@ -46,7 +46,7 @@ const CASE_A: [u32; 37] = [
 ];
 
 // Case B, as words.
-const CASE_B: [u32; 66] = [
+const CASE_B: [u32; 67] = [
     0,
     1,
     2,
@@ -82,11 +82,12 @@ const CASE_B: [u32; 66] = [
     0,
     1,
     1,
+    352,
     0,
     1,
     13,
     1,
-    2,
+    46,
     0,
     0,
     0,
@@ -106,13 +107,13 @@ const CASE_B: [u32; 66] = [
     2,
     128,
     1,
-    140,
+    144,
     1,
-    160,
+    164,
     1,
-    180,
+    184,
     0,
-    180,
+    184,
 ];
 
 // Changes to A, a row of four each: a word's place and its new value, twice; place 99 changes nothing. In the paper's order.
@@ -185,7 +186,7 @@ const B_CHANGES: [u32; 12] = [
     0,
     99,
     0, // B: 0 0 0
-    37,
+    38,
     12,
     99,
     0, // E = 12: 21 7 0
@@ -266,7 +267,7 @@ fn change_b(image: &mut [u8], k: usize)
     let second = B_CHANGES[at + 2];
     let other = B_CHANGES[at + 3];
     let mut i: usize = 0;
-    while i < 66 {
+    while i < 67 {
         put(
             image,
             i,
@@ -287,7 +288,7 @@ fn run_a(k: usize)
 fn run_b(k: usize)
     requires { ⌜ k < 3 ⌝ }
 {
-    let mut image = [0u8; 264];
+    let mut image = [0u8; 268];
     change_b(&mut image, k);
     print_answer(&image);
 }

@@ -241,7 +241,12 @@ fn link_range(image: &[u8], row: u32) -> bool
     ensures { λ r. ⌜ r ≡ inRange (now (image .entry)) Links row ⌝ }
 {
     let link = link_at(image, row);
-    (link.from <= 15) & (link.to <= 15) & !(link.from == link.to) & (link.delay <= 1000000)
+    (link.from <= 15)
+        & (link.to <= 15)
+        & !(link.from == link.to)
+        & (link.delay <= 1000000)
+        & (1 <= link.rate)
+        & (link.rate <= 10000)
 }
 
 // 6, of a stream.
@@ -251,13 +256,12 @@ fn stream_range(image: &[u8], row: u32) -> bool
 {
     let stream = stream_at(image, row);
     let differ = !(stream.sender == stream.receiver);
-    let cycle = cycle_ticks(image);
     differ
         & (stream.latency <= 1000000)
         & (1 <= stream.hops)
         & (stream.hops <= 8)
-        & (1 <= stream.wire)
-        & (stream.wire <= cycle)
+        & (46 <= stream.payload)
+        & (stream.payload <= 1500)
 }
 
 // 6, of a buffer row.

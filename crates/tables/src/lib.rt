@@ -226,6 +226,7 @@ pub fn link_at(image: &[u8], row: u32) -> Link
         from: field_of(image, Table::Links, row, 0),
         to: field_of(image, Table::Links, row, 1),
         delay: field_of(image, Table::Links, row, 2),
+        rate: field_of(image, Table::Links, row, 3),
     }
 }
 
@@ -239,7 +240,7 @@ pub fn stream_at(image: &[u8], row: u32) -> Stream
         receiver: field_of(image, Table::Streams, row, 1),
         latency: field_of(image, Table::Streams, row, 2),
         hops: field_of(image, Table::Streams, row, 3),
-        wire: field_of(image, Table::Streams, row, 4),
+        payload: field_of(image, Table::Streams, row, 4),
     }
 }
 

@@ -1,10 +1,11 @@
 -- Row numbers reached through rows that exist name rows that exist.
-use Prim.Native.Nat.{ℕ, _≤_, _<_}
+use Prim.Native.Nat.{ℕ, _+_, _-_, _*_, _/_, _≤_, _<_}
+use native.Mathlib.Nat.{div-le-self}
 use native.Mathlib.Omega.{arith}
 use mathlib.Core.List.{List}
-use Rattle.plan.specs.declared.Table.the-variants.{Cores, Vcpus, Tasks, Windows, Streams, Frames}
-use Rattle.plan.specs.Image.{rows, task, vcpu, window, frame}
-use Rattle.plan.specs.Questions.{coreOf, windowCore, sendTicks}
+use Rattle.plan.specs.declared.Table.the-variants.{Cores, Vcpus, Tasks, Windows, Links, Streams, Frames}
+use Rattle.plan.specs.Image.{rows, task, vcpu, window, link, stream, frame}
+use Rattle.plan.specs.Questions.{coreOf, windowCore, overhead, sendTicks}
 use Rattle.plan.specs.Held.{Sound}
 
 module _ (s : List ℕ) (h : Sound s) where
@@ -16,7 +17,11 @@ module _ (s : List ℕ) (h : Sound s) where
   unfolding windowCore
   window-core-below w l = h .names Vcpus (window s w .vcpu) (h .names Windows w l)
 
-  -- a frame is sent for at most a cycle
+  -- the longest frame on the slowest link
   pub send-most : (f : ℕ) → f < rows s Frames → sendTicks s f ≤ 1000000
-  unfolding sendTicks
-  send-most f l = let m = frame s f .stream in let r = h .ranges Streams m (h .names Frames f l .0) in omega (arith, r .5, h .cycle-most)
+  unfolding sendTicks overhead
+  send-most f l =
+      let m = h .ranges Streams (frame s f .stream) (h .names Frames f l .0) in
+      let r = h .ranges Links (frame s f .link) (h .names Frames f l .1) in
+      let n : ℕ = 8 * (stream s (frame s f .stream) .payload + 42) + (link s (frame s f .link) .rate - 1) in
+      omega (arith, div-le-self n (link s (frame s f .link) .rate), m .5, r .5)

@@ -1,9 +1,10 @@
 // The words of the plan paper: what its questions say of a task, a window, a piece, a stream and a frame, read off the image.
 // Each gives what the definition of that name gives (Questions.antt), for an image that has passed questions 1 to 6.
 ghost use mathlib.Core.Path.{_≡_};
-ghost use Prim.Native.Nat.{_<_};
+ghost use Prim.Native.Nat.{_<_, _≤_};
 ghost use Rattle.plan.specs.declared.Table.the-variants.{Tasks, Windows, Pieces, Streams, Frames};
-ghost use Rattle.plan.specs.Image.{rows};
+ghost use Rattle.plan.specs.Image as Image;
+ghost use Rattle.plan.specs.Image.{rows, stream, link};
 ghost use Rattle.plan.specs.Held.{Sound};
 ghost use Rattle.plan.specs.Search.{any};
 ghost use Rattle.plan.specs.Questions.{coreOf, nodeOf, jobs, release, due, switchTicks, windowCore, windowEnd, keepsFrom, charge, pieceCore, pieceEnd};
@@ -169,12 +170,33 @@ pub fn limit_of(image: &[u8], stream: u32) -> u32
     }
 }
 
-// The ticks for which a frame is sent.
+// The bytes of a frame on the wire besides its payload: tagged Ethernet's header, check, preamble and gap.
+const OVERHEAD: u32 = 42;
+
+// A frame's payload, in bytes.
+fn payload_of(image: &[u8], frame: u32) -> u32
+    requires { ⌜ Sound (now image) × (frame < rows (now image) Frames) ⌝ }
+    ensures { λ r. ⌜ (r ≡ stream (now (image .entry)) (Image.frame (now (image .entry)) frame .stream) .payload) × (r ≤ 1500) ⌝ }
+{
+    stream_at(image, frame_at(image, frame).stream).payload
+}
+
+// The rate of a frame's link, in bits a tick.
+fn rate_of(image: &[u8], frame: u32) -> u32
+    requires { ⌜ Sound (now image) × (frame < rows (now image) Frames) ⌝ }
+    ensures { λ r. ⌜ (r ≡ link (now (image .entry)) (Image.frame (now (image .entry)) frame .link) .rate) × ((1 ≤ r) × (r ≤ 10000)) ⌝ }
+{
+    link_at(image, frame_at(image, frame).link).rate
+}
+
+// The ticks for which a frame is sent on its link: its bits by the link's rate, rounded up.
 pub fn send_ticks(image: &[u8], frame: u32) -> u32
     requires { ⌜ Sound (now image) × (frame < rows (now image) Frames) ⌝ }
     ensures { λ r. ⌜ r ≡ sendTicks (now (image .entry)) frame ⌝ }
 {
-    stream_at(image, frame_at(image, frame).stream).wire
+    let bits = 8 * (payload_of(image, frame) + OVERHEAD);
+    let rate = rate_of(image, frame);
+    (bits + (rate - 1)) / rate
 }
 
 pub fn frame_end(image: &[u8], frame: u32) -> u64

@@ -2,7 +2,7 @@
 
 use super::timeline::Timeline;
 use super::windows::lay_windows;
-use crate::image::{Plan, ROW_BOUNDS};
+use crate::image::{Link, Plan, ROW_BOUNDS};
 use crate::rng::Rng;
 
 /// The longest latency a stream can ask for.
@@ -66,7 +66,7 @@ pub struct Flow {
     pub from: usize,
     pub to: usize,
     pub hops: u32,
-    pub wire: u32,
+    pub payload: u32,
 }
 
 /// First start and last end of a job.
@@ -104,8 +104,8 @@ impl Draft {
         self.plan.vcpus.push([core]);
     }
 
-    pub fn add_link(&mut self, from: u32, to: u32, delay: u32) {
-        self.plan.links.push([from, to, delay]);
+    pub fn add_link(&mut self, link: Link) {
+        self.plan.links.push(link);
         self.link_lines.push(Timeline::default());
     }
 
@@ -163,7 +163,8 @@ impl Draft {
                 self.plan.buffers.push([0, from, to]);
             } else {
                 edges.push(Edge::Stream(self.plan.streams.len() as u32));
-                self.plan.streams.push([from, to, 0, flow.hops, flow.wire]);
+                let stream = [from, to, 0, flow.hops, flow.payload];
+                self.plan.streams.push(stream);
             }
         }
         edges
@@ -200,20 +201,21 @@ impl Draft {
     /// Places the frames of a message and gives the tick from which the
     /// receiver may start.
     fn place_frames(&mut self, stream: u32, job: u32, ready: u32, rng: &mut Rng) -> Option<u32> {
-        let [sender, receiver, _, hops, wire] = self.plan.streams[stream as usize];
+        let [sender, receiver, _, hops, _] = self.plan.streams[stream as usize];
         let until = (job + 1) * self.plan.period(sender);
         let from = self.plan.node_of_task(sender);
         let to = self.plan.node_of_task(receiver);
         let mut earliest = ready;
         for (hop, link) in (0..).zip(self.walk(from, to, hops, rng)?) {
             let asked = earliest + slack(self.plan.period(sender), rng);
+            let ticks = self.plan.frame_ticks(stream, link);
             let line = &mut self.link_lines[link as usize];
-            let at_ease = line.fit(asked, until, 0, wire);
-            let start = at_ease.or_else(|| line.fit(earliest, until, 0, wire))?;
-            line.take(start, start + wire, stream);
+            let at_ease = line.fit(asked, until, 0, ticks);
+            let start = at_ease.or_else(|| line.fit(earliest, until, 0, ticks))?;
+            line.take(start, start + ticks, stream);
             self.plan.frames.push([stream, job, hop, link, start]);
             let delay = self.plan.links[link as usize][2];
-            earliest = start + wire + delay + self.plan.precision;
+            earliest = start + ticks + delay + self.plan.precision;
         }
         Some(earliest)
     }
@@ -234,7 +236,7 @@ impl Draft {
         let mut walk = Vec::new();
         for remaining in (0..hops as usize).rev() {
             let leads_on = |link: &u32| {
-                let [begin, end, _] = self.plan.links[*link as usize];
+                let [begin, end, ..] = self.plan.links[*link as usize];
                 begin == node && reach[remaining] >> end & 1 == 1
             };
             let links = 0..self.plan.links.len() as u32;

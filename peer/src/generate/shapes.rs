@@ -157,11 +157,9 @@ pub fn bare(rng: &mut Rng) -> Plan {
         draft.add_core(node, d, v);
     }
     for _ in 0..rng.within(0..=2) {
-        draft.add_link(
-            rng.within(0..=7),
-            rng.within(8..=15),
-            rng.within(0..=1_000_000),
-        );
+        let [from, to] = [rng.within(0..=7), rng.within(8..=15)];
+        let [delay, rate] = [rng.within(0..=1_000_000), rng.within(1..=10_000)];
+        draft.add_link([from, to, delay, rate]);
     }
     let plan = draft.finish(None, rng);
     plan.expect("no windows are needed")
@@ -378,7 +376,8 @@ fn try_full(rng: &mut Rng) -> Option<Plan> {
     for link in 0..64 {
         let from = link % nodes;
         let to = (from + 1 + link / nodes % (nodes - 1)) % nodes;
-        draft.add_link(from, to, rng.within(0..=unit / 200));
+        let rate = any_rate(unit / 800, rng);
+        draft.add_link([from, to, rng.within(0..=unit / 200), rate]);
     }
     for _ in 0..64 {
         let fits = (0..20).any(|_| {
@@ -407,7 +406,7 @@ fn full_transaction(draft: &Draft, unit: u32, rng: &mut Rng) -> Transaction {
     let node = draft.node_of_vcpu(writer);
     let is_near = |vcpu: &u32| draft.node_of_vcpu(*vcpu) == node;
     let (near, far): (Vec<u32>, Vec<u32>) = vcpus.iter().partition(|vcpu| is_near(vcpu));
-    let wire = rng.within(1..=unit / 400);
+    let payload = any_payload(draft, unit / 400, rng);
     Transaction {
         period: 8 * unit / jobs,
         tasks: vec![
@@ -421,13 +420,13 @@ fn full_transaction(draft: &Draft, unit: u32, rng: &mut Rng) -> Transaction {
                 from: 0,
                 to: 1,
                 hops: each,
-                wire,
+                payload,
             },
             Flow {
                 from: rng.pick(&[0, 1]),
                 to: 2,
                 hops: each,
-                wire,
+                payload,
             },
         ],
     }
@@ -492,8 +491,39 @@ fn add_links(draft: &mut Draft, size: &Size, least: u32, nodes: &mut [u32], rng:
             rng.shuffle(nodes);
         }
         let most_delay = (draft.plan.cycle / 40).max(2);
-        draft.add_link(nodes[0], nodes[1], few(most_delay, rng));
+        let [delay, rate] = [few(most_delay, rng), any_rate(draft.plan.cycle / 24, rng)];
+        draft.add_link([nodes[0], nodes[1], delay, rate]);
     }
+}
+
+/// The bits of the shortest frame.
+const FEWEST_BITS: u32 = 8 * (46 + 42);
+
+/// A rate at which the shortest frame takes some ticks, and seldom more than
+/// so many: often just these, or one more.
+fn any_rate(most_ticks: u32, rng: &mut Rng) -> u32 {
+    let ticks = rng.within(1..=most_ticks.clamp(1, FEWEST_BITS));
+    let (slow, fast) = (FEWEST_BITS / ticks, FEWEST_BITS.div_ceil(ticks));
+    match rng.below(6) {
+        0 => fast,
+        1 => slow,
+        2 => (fast - 1).max(1),
+        3 => fast.next_multiple_of(8),
+        4 => fast.max(rng.pick(&[1, 10, 100, 1_000, 2_500, 10_000])),
+        _ => rng.within(fast..=10_000),
+    }
+}
+
+/// A payload of which a frame takes about so many ticks, or fewer, on one of
+/// the links: often one that fills its last tick there, or just does not fit.
+fn any_payload(draft: &Draft, most_ticks: u32, rng: &mut Rng) -> u32 {
+    let rates: Vec<u32> = draft.plan.links.iter().map(|link| link[3]).collect();
+    let rate = rng.pick_any(&rates).unwrap_or(1);
+    let filling = |ticks: u32| (ticks * rate / 8).saturating_sub(42).clamp(46, 1_500);
+    let most = filling(most_ticks.min(100_000));
+    let full = filling(rng.within(1..=most_ticks.clamp(1, 100_000)));
+    let any = rng.within(46..=most);
+    rng.pick(&[46, any, full, full, (full + 1).min(most), most])
 }
 
 /// Up to a number, and often none or one.
@@ -525,7 +555,7 @@ fn exchange(draft: &Draft, rng: &mut Rng) -> Transaction {
             from: 0,
             to: 1,
             hops: 1,
-            wire: 1,
+            payload: 46,
         }],
     }
 }
@@ -580,7 +610,7 @@ fn flows(draft: &Draft, size: &Size, period: u32, tasks: &[NewTask], rng: &mut R
                     from,
                     to,
                     hops,
-                    wire: rng.within(1..=(period / (8 * hops)).max(1)),
+                    payload: any_payload(draft, period / (8 * hops), rng),
                 });
             }
         }

@@ -1,6 +1,8 @@
 //! Changes of the image's bytes, among them those aimed at questions 1 to 3.
 
-use crate::image::{set_word, word_at, Plan, LONGEST, ROW_BOUNDS, TRAILER, WIDTHS, WORD};
+use crate::image::{
+    set_word, width, word_at, Plan, Trailer, LINK, LONGEST, ROW_BOUNDS, TRAILER, WIDTHS, WORD,
+};
 use crate::rng::Rng;
 
 /// Aims at one of the first three questions.
@@ -78,7 +80,7 @@ fn last_word(mut image: Vec<u8>, rng: &mut Rng) -> Vec<u8> {
 }
 
 fn layout(mut plan: Plan, rng: &mut Rng) -> Vec<u8> {
-    match rng.below(6) {
+    match rng.below(7) {
         0 => one_table(plan.encode(), rng),
         1 => {
             too_many_rows(&mut plan, rng);
@@ -90,6 +92,7 @@ fn layout(mut plan: Plan, rng: &mut Rng) -> Vec<u8> {
         }
         3 => widened(plan, rng),
         4 => many_tables(plan.encode(), rng),
+        5 => old_link_rows(plan.encode()),
         _ => one_count(plan.encode(), rng),
     }
 }
@@ -144,13 +147,29 @@ fn many_tables(mut image: Vec<u8>, rng: &mut Rng) -> Vec<u8> {
     image
 }
 
+/// Link rows of three words, as they once were, and all else in its place.
+fn old_link_rows(mut image: Vec<u8>) -> Vec<u8> {
+    let (begin, rows) = Trailer::read(&image).tables[LINK as usize - 1];
+    for row in (0..rows as usize).rev() {
+        let rate = begin as usize + (row * width(LINK) + 3) * WORD;
+        image.drain(rate..rate + WORD);
+    }
+    for table in LINK as usize..WIDTHS.len() {
+        let at = offset_byte(&image, table);
+        let offset = word_at(&image, at) - rows * WORD as u32;
+        set_word(&mut image, at, offset);
+    }
+    point_back(&mut image);
+    image
+}
+
 /// One more row than a table may have, laid out as it should be.
 fn too_many_rows(plan: &mut Plan, rng: &mut Rng) {
     match rng.below(5) {
         0 => plan.cores.resize(33, [0, 0, 0]),
         1 => plan.vcpus.resize(65, [0]),
-        2 => plan.links.resize(65, [0, 1, 0]),
-        3 => plan.streams.resize(65, [0, 1, 0, 1, 1]),
+        2 => plan.links.resize(65, [0, 1, 0, 1]),
+        3 => plan.streams.resize(65, [0, 1, 0, 1, 46]),
         _ => plan.buffers.resize(65, [0, 0, 1]),
     }
 }

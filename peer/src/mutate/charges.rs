@@ -66,12 +66,12 @@ fn other_vcpu(plan: &mut Plan, vcpu: u32, rng: &mut Rng) -> Option<u32> {
 /// A window that pays and is no longer than its switch, or one that is as
 /// short and pays nothing.
 pub fn short_window(plan: &mut Plan, rng: &mut Rng) -> Option<()> {
-    match rng.below(8) {
+    match rng.below(10) {
         0 | 1 => cut_tail(plan, rng),
         2 => short_at_tick_0(plan, rng),
         3 => cut_at_tick_0(plan, rng),
-        4 => empty_before(plan, rng),
-        5 => wrapped_before(plan, rng),
+        4 | 5 => empty_before(plan, rng),
+        6 | 7 => wrapped_before(plan, rng),
         _ => part_from_predecessor(plan, rng),
     }
 }

@@ -77,11 +77,12 @@ fn task_range(plan: &mut Plan, rng: &mut Rng) -> Option<()> {
 fn link_range(plan: &mut Plan, rng: &mut Rng) -> Option<()> {
     let row = any_row(&plan.links, rng)?;
     let from = plan.links[row][0];
-    let (column, value) = match rng.below(4) {
+    let (column, value) = match rng.below(6) {
         0 => (0, rng.pick(&[16, u32::MAX])),
         1 => (1, rng.pick(&[16, u32::MAX])),
         2 => (1, from),
-        _ => (2, rng.pick(&[1_000_001, u32::MAX])),
+        3 => (2, rng.pick(&[1_000_001, u32::MAX])),
+        _ => (3, rng.pick(&[0, 0, 10_001, 10_001, 1 << 31, u32::MAX])),
     };
     plan.links[row][column] = value;
     Some(())
@@ -90,11 +91,11 @@ fn link_range(plan: &mut Plan, rng: &mut Rng) -> Option<()> {
 fn stream_range(plan: &mut Plan, rng: &mut Rng) -> Option<()> {
     let row = any_row(&plan.streams, rng)?;
     let sender = plan.streams[row][0];
-    let (column, value) = match rng.below(4) {
+    let (column, value) = match rng.below(5) {
         0 => (1, sender),
         1 => (2, rng.pick(&[1_000_001, 1 << 31, u32::MAX])),
         2 => (3, rng.pick(&[0, 9, (1 << 30) + 1, u32::MAX])),
-        _ => (4, rng.pick(&[0, plan.cycle.wrapping_add(1), u32::MAX])),
+        _ => (4, rng.pick(&[45, 45, 1_501, 1_501, 0, 1 << 29, u32::MAX])),
     };
     plan.streams[row][column] = value;
     Some(())

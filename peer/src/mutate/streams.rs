@@ -1,7 +1,7 @@
 //! Changes aimed at questions 14 to 21.
 
 use super::{any_row, any_where, insert, job_span, wide, word};
-use crate::image::{Plan, FRAME, LINK, ROW_BOUNDS};
+use crate::image::{Link, Plan, FRAME, LINK, ROW_BOUNDS};
 use crate::rng::Rng;
 
 /// Any two tasks that serve.
@@ -18,7 +18,7 @@ fn may_talk(plan: &Plan, a: u32, b: u32) -> bool {
 pub fn ends(plan: &mut Plan, rng: &mut Rng) -> Option<()> {
     if rng.chance(40) {
         let (sender, receiver) = task_pair(plan, |a, b| !may_talk(plan, a, b), rng)?;
-        return insert_stream(plan, [sender, receiver, 0, 1, 1]);
+        return insert_stream(plan, [sender, receiver, 0, 1, rng.within(46..=1_500)]);
     }
     let row = any_row(&plan.streams, rng)?;
     let end = rng.below(2);
@@ -40,12 +40,14 @@ fn insert_stream(plan: &mut Plan, stream: [u32; 5]) -> Option<()> {
 
 pub fn frame_in_job(plan: &mut Plan, rng: &mut Rng) -> Option<()> {
     let row = any_row(&plan.frames, rng)?;
-    let [stream, k, ..] = plan.frames[row];
-    let [sender, _, _, hops, wire] = plan.streams[stream as usize];
+    let [stream, k, _, link, _] = plan.frames[row];
+    let [sender, _, _, hops, _] = plan.streams[stream as usize];
     let period = wide(plan.period(sender));
     let jobs = plan.jobs(sender);
+    let due = (wide(k) + 1) * period;
+    let (own, read) = (ticks(plan, row), read_ticks(plan, row, rng));
     let frame = &mut plan.frames[row];
-    match rng.below(8) {
+    match rng.below(11) {
         0 => frame[1] = jobs,
         7 => {
             // The same place in the first job after the cycle.
@@ -55,17 +57,80 @@ pub fn frame_in_job(plan: &mut Plan, rng: &mut Rng) -> Option<()> {
         1 => frame[1] = rng.pick(&[1 << 31, u32::MAX, jobs + 1]),
         2 => frame[2] = rng.pick(&[hops, hops + 1, 1 << 30, u32::MAX]),
         3 => frame[4] = word(wide(k) * period - 1),
-        4 => frame[4] = word((wide(k) + 1) * period - wide(wire) + rng.pick(&[0, 1, 1])),
-        5 => frame[4] = rng.pick(&[u32::MAX, 0_u32.wrapping_sub(wire), 1 << 31]),
-        _ => plan.streams[stream as usize][4] = plan.cycle,
+        4 => frame[4] = word(due - own + rng.pick(&[0, 1, 1])),
+        5 => frame[4] = rng.pick(&[u32::MAX, word(-own), 1 << 31]),
+        6 => plan.links[link as usize][3] = 1,
+        8 => plan.streams[stream as usize][4] = 1_500,
+        9 => frame[4] = word(due - read),
+        _ => {
+            frame[4] = word(due - own);
+            lengthen(plan, row, rng)?;
+        }
     }
     Some(())
+}
+
+/// The bits of a stream's frames.
+fn bits(plan: &Plan, stream: u32) -> i64 {
+    8 * (wide(plan.streams[stream as usize][4]) + 42)
+}
+
+/// The ticks that so many bits take on a link. A rate of 0, which a change
+/// before may have left, is taken for 1.
+fn ticks_of(plan: &Plan, bits: i64, link: u32) -> i64 {
+    let rate = wide(plan.links[link as usize][3]).max(1);
+    (bits + rate - 1) / rate
+}
+
+fn ticks_on(plan: &Plan, stream: u32, link: u32) -> i64 {
+    ticks_of(plan, bits(plan, stream), link)
+}
+
+/// The ticks that a frame takes.
+fn ticks(plan: &Plan, frame: usize) -> i64 {
+    let [stream, _, _, link, _] = plan.frames[frame];
+    ticks_on(plan, stream, link)
+}
+
+/// What one of many readings takes for the ticks of a frame: rounded down,
+/// without what goes around the payload, or at the rate of another hop.
+fn read_ticks(plan: &Plan, frame: usize, rng: &mut Rng) -> i64 {
+    let [stream, k, hop, link, _] = plan.frames[frame];
+    let bits = bits(plan, stream);
+    let near = [hop.wrapping_sub(1), hop.wrapping_add(1), 0];
+    let at_rate_of = |hop: u32| {
+        let frame = frame_row(plan, stream, k, hop);
+        frame.map(|frame| ticks_of(plan, bits, plan.frames[frame][3]))
+    };
+    let own = ticks(plan, frame);
+    let [before, after, first] = near.map(at_rate_of).map(|ticks| ticks.unwrap_or(own));
+    let rounded_down = bits / wide(plan.links[link as usize][3]).max(1);
+    let bare = ticks_of(plan, bits - 8 * 42, link);
+    rng.pick(&[own, rounded_down, before, before, after, first, bare])
+}
+
+/// Makes a frame take one tick more, by the fewest bytes or the least change
+/// of the rate that do.
+fn lengthen(plan: &mut Plan, frame: usize, rng: &mut Rng) -> Option<()> {
+    let [stream, _, _, link, _] = plan.frames[frame];
+    let own = ticks(plan, frame);
+    if rng.chance(50) {
+        let filled = own * wide(plan.links[link as usize][3]) / 8;
+        let payload = filled + 1 - 42;
+        plan.streams[stream as usize][4] = word(payload);
+        (payload <= 1_500).then_some(())
+    } else {
+        let bits = bits(plan, stream);
+        let least = (bits + own - 1) / own;
+        plan.links[link as usize][3] = word(least - 1);
+        (least > 1).then_some(())
+    }
 }
 
 pub fn frame_count(plan: &mut Plan, rng: &mut Rng) -> Option<()> {
     if rng.chance(20) {
         let (sender, receiver) = task_pair(plan, |a, b| may_talk(plan, a, b), rng)?;
-        return insert_stream(plan, [sender, receiver, 0, 1, 1]);
+        return insert_stream(plan, [sender, receiver, 0, 1, rng.within(46..=1_500)]);
     }
     let row = any_row(&plan.frames, rng)?;
     let frame = plan.frames[row];
@@ -89,7 +154,7 @@ pub fn frame_count(plan: &mut Plan, rng: &mut Rng) -> Option<()> {
 pub fn route(plan: &mut Plan, rng: &mut Rng) -> Option<()> {
     let row = any_row(&plan.frames, rng)?;
     let [stream, _, _, link, _] = plan.frames[row];
-    let [from, to, delay] = plan.links[link as usize];
+    let [from, to, delay, rate] = plan.links[link as usize];
     match rng.below(6) {
         0 => {
             let differs = |other: usize| plan.links[other][..2] != plan.links[link as usize][..2];
@@ -98,7 +163,7 @@ pub fn route(plan: &mut Plan, rng: &mut Rng) -> Option<()> {
             Some(())
         }
         1 => {
-            plan.links[link as usize] = [to, from, delay];
+            plan.links[link as usize] = [to, from, delay, rate];
             Some(())
         }
         2 => {
@@ -110,8 +175,8 @@ pub fn route(plan: &mut Plan, rng: &mut Rng) -> Option<()> {
             Some(())
         }
         // A detour that leaves all other hops as they are.
-        4 => move_to_new_link(plan, row, [other_node(from, to), to, delay]),
-        _ => move_to_new_link(plan, row, [from, other_node(from, to), delay]),
+        4 => move_to_new_link(plan, row, [other_node(from, to), to, delay, rate]),
+        _ => move_to_new_link(plan, row, [from, other_node(from, to), delay, rate]),
     }
 }
 
@@ -133,9 +198,13 @@ fn frame_row(plan: &Plan, stream: u32, k: u32, hop: u32) -> Option<usize> {
 
 /// A frame's end + delay + P.
 fn arrival(plan: &Plan, frame: usize) -> i64 {
-    let [stream, _, _, link, start] = plan.frames[frame];
-    let wire = plan.streams[stream as usize][4];
-    wide(start) + wide(wire) + wide(plan.links[link as usize][2]) + wide(plan.precision)
+    arrival_after(plan, frame, ticks(plan, frame))
+}
+
+/// The same, if the frame took so many ticks.
+fn arrival_after(plan: &Plan, frame: usize, ticks: i64) -> i64 {
+    let [_, _, _, link, start] = plan.frames[frame];
+    wide(start) + ticks + wide(plan.links[link as usize][2]) + wide(plan.precision)
 }
 
 pub fn hop_order(plan: &mut Plan, rng: &mut Rng) -> Option<()> {
@@ -146,7 +215,20 @@ pub fn hop_order(plan: &mut Plan, rng: &mut Rng) -> Option<()> {
     let bound = arrival(plan, previous);
     let spare = word(wide(start) - bound);
     let excess = rng.pick(&[0, 1, 1, 1]);
-    match rng.below(4) {
+    match rng.below(7) {
+        4 => {
+            let read = read_ticks(plan, previous, rng);
+            plan.frames[row][4] = word(arrival_after(plan, previous, read));
+        }
+        5 => {
+            plan.frames[row][4] = word(bound);
+            lengthen(plan, previous, rng)?;
+        }
+        6 => {
+            let [a, b] = [previous, row].map(|frame| plan.frames[frame][3] as usize);
+            let rates = [plan.links[a][3], plan.links[b][3]];
+            [plan.links[b][3], plan.links[a][3]] = rates;
+        }
         0 => {
             let link = plan.frames[previous][3] as usize;
             let delay = plan.links[link][2].wrapping_add(spare);
@@ -162,15 +244,15 @@ pub fn hop_order(plan: &mut Plan, rng: &mut Rng) -> Option<()> {
 pub fn frame_clash(plan: &mut Plan, rng: &mut Rng) -> Option<()> {
     match rng.below(10) {
         0..=3 => {
-            let stream = any_row(&plan.streams, rng)?;
-            let late = rng.within(0..=plan.streams[stream][4]);
-            second_stream(plan, stream, late, rng)
+            let frame = any_row(&plan.frames, rng)?;
+            let own = word(ticks(plan, frame));
+            let any = rng.within(0..=own);
+            let late = rng.pick(&[own, own.saturating_sub(1), any]);
+            second_stream(plan, plan.frames[frame][0] as usize, late, rng)
         }
         4 => {
-            let stream = any_row(&plan.streams, rng)?;
-            let wire = plan.streams[stream][4];
-            plan.streams[stream][4] = wire.wrapping_add(rng.within(1..=3));
-            Some(())
+            let frame = any_row(&plan.frames, rng)?;
+            lengthen(plan, frame, rng)
         }
         5 => {
             let row = any_row(&plan.frames, rng)?;
@@ -188,14 +270,14 @@ pub fn frame_clash(plan: &mut Plan, rng: &mut Rng) -> Option<()> {
 /// before and after leave it room. The other's link has the same ends.
 fn move_onto_frame(plan: &mut Plan, rng: &mut Rng) -> Option<()> {
     let row = any_row(&plan.frames, rng)?;
-    let [_, k, _, link, _] = plan.frames[row];
+    let [stream, k, _, link, _] = plan.frames[row];
     let ends = |link: u32| &plan.links[link as usize][..2];
-    let room = frame_room(plan, row);
-    let wire = |row: usize| wide(plan.streams[plan.frames[row][0] as usize][4]);
     let starts = |other: usize| {
-        let start = wide(plan.frames[other][4]);
-        let first = room.0.max(start - wire(row) + 1);
-        let last = room.1.min(start + wire(other) - 1);
+        let [_, _, _, link, start] = plan.frames[other];
+        let room = frame_room(plan, row, link);
+        let own = ticks_on(plan, stream, link);
+        let first = room.0.max(wide(start) - own + 1);
+        let last = room.1.min(wide(start) + ticks(plan, other) - 1);
         (first <= last).then_some((first, last))
     };
     let other_jobs = rng.chance(50);
@@ -212,18 +294,20 @@ fn move_onto_frame(plan: &mut Plan, rng: &mut Rng) -> Option<()> {
     Some(())
 }
 
-/// The first and last start that questions 15 and 18 leave a frame.
-fn frame_room(plan: &Plan, row: usize) -> (i64, i64) {
-    let [stream, k, hop, _, start] = plan.frames[row];
-    let [sender, _, _, _, wire] = plan.streams[stream as usize];
+/// The first and last start that questions 15 and 18 leave a frame if it is
+/// sent on a link.
+fn frame_room(plan: &Plan, row: usize, link: u32) -> (i64, i64) {
+    let [stream, k, hop, ..] = plan.frames[row];
+    let [sender, ..] = plan.streams[stream as usize];
+    let own = ticks_on(plan, stream, link);
     let period = wide(plan.period(sender));
     let before = hop.checked_sub(1);
     let before = before.and_then(|hop| frame_row(plan, stream, k, hop));
     let after = frame_row(plan, stream, k, hop + 1);
     let first = wide(k) * period;
     let first = before.map_or(first, |before| first.max(arrival(plan, before)));
-    let last = (wide(k) + 1) * period - wide(wire);
-    let taken = arrival(plan, row) - wide(start);
+    let last = (wide(k) + 1) * period - own;
+    let taken = own + wide(plan.links[link as usize][2]) + wide(plan.precision);
     let last = after.map_or(last, |after| last.min(wide(plan.frames[after][4]) - taken));
     (first, last)
 }
@@ -255,7 +339,17 @@ pub fn message_order(plan: &mut Plan, rng: &mut Rng) -> Option<()> {
         own_link(plan, first)?;
         own_link(plan, last)?;
     }
-    match rng.below(5) {
+    match rng.below(7) {
+        4 => {
+            let read = read_ticks(plan, last, rng);
+            let late = receiver_start - arrival_after(plan, last, read);
+            plan.frames[last][4] = word(wide(plan.frames[last][4]) + late);
+        }
+        5 => {
+            let link = plan.frames[last][3] as usize;
+            plan.links[link][2] = plan.links[link][2].wrapping_add(spare);
+            lengthen(plan, last, rng)?;
+        }
         0 => plan.frames[first][4] = word(sender_end - wide(excess)),
         1 => plan.frames[first][4] = word(sender_start),
         2 => plan.precision = plan.precision.wrapping_add(spare).wrapping_add(excess),
@@ -278,7 +372,7 @@ fn own_link(plan: &mut Plan, frame: usize) -> Option<()> {
     move_to_new_link(plan, frame, beside)
 }
 
-fn move_to_new_link(plan: &mut Plan, frame: usize, link: [u32; 3]) -> Option<()> {
+fn move_to_new_link(plan: &mut Plan, frame: usize, link: Link) -> Option<()> {
     plan.frames[frame][3] = plan.links.len() as u32;
     plan.links.push(link);
     (plan.links.len() <= ROW_BOUNDS[LINK as usize - 1].1 as usize).then_some(())

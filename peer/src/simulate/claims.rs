@@ -149,7 +149,7 @@ impl<'a> Messages<'a> {
 
     /// The true time at which a message arrives, if every frame counts.
     fn arrival(&self, reading: &Reading, message: Message) -> Option<i128> {
-        let [_, _, _, hops, wire] = self.plan.streams[message.row];
+        let [_, _, _, hops, payload] = self.plan.streams[message.row];
         let JobId { cycle, k, .. } = message.sender;
         let mut ready = self.time.end(reading.end(message.sender)?);
         for hop in 0..hops {
@@ -158,9 +158,9 @@ impl<'a> Messages<'a> {
             if self.time.begin(*sent.first()?) < ready {
                 return None;
             }
-            let last: &Tick = sent.get(wire as usize - 1)?;
-            let link = self.plan.frames[frame][3] as usize;
-            ready = self.time.end(*last) + i128::from(self.plan.links[link][2]);
+            let [_, _, delay, rate] = self.plan.links[self.plan.frames[frame][3] as usize];
+            let last = sent.get(last_tick(payload, rate))?;
+            ready = self.time.end(*last) + i128::from(delay);
         }
         Some(ready)
     }
@@ -211,6 +211,18 @@ impl<'a> Messages<'a> {
             what: format!("stream {}: {receiver} {what}", message.row),
         }
     }
+}
+
+/// Which of the ticks of a frame is its last one, counted from 0, if each
+/// takes as many bits of it as the rate says.
+fn last_tick(payload: u32, rate: u32) -> usize {
+    let mut left = 8 * (payload + 42);
+    let mut tick = 0;
+    while left > rate {
+        left -= rate;
+        tick += 1;
+    }
+    tick
 }
 
 /// Asks of every hold that no other task of its buffer runs in it.

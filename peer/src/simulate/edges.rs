@@ -14,7 +14,10 @@ pub enum Dial {
     PieceLength(usize),
     Delay(usize),
     Latency(usize),
-    Wire(usize),
+    /// Turned on to where a frame takes more or fewer ticks.
+    Payload(usize),
+    /// The same.
+    Rate(usize),
     FrameStart(usize),
 }
 
@@ -48,7 +51,8 @@ fn dials(plan: &Plan) -> Vec<Dial> {
     dials.extend((0..pieces).map(Dial::PieceLength));
     dials.extend((0..links).map(Dial::Delay));
     dials.extend((0..streams).map(Dial::Latency));
-    dials.extend((0..streams).map(Dial::Wire));
+    dials.extend((0..streams).map(Dial::Payload));
+    dials.extend((0..links).map(Dial::Rate));
     dials.extend((0..frames).map(Dial::FrameStart));
     dials
 }
@@ -58,8 +62,7 @@ fn edge(plan: &Plan, dial: Dial, by: i64) -> Option<Edge> {
     let mut kept = plan.clone();
     for _ in 0..=2 * plan.cycle {
         let mut broken = kept.clone();
-        let word = dial.word(&mut broken);
-        *word = u32::try_from(i64::from(*word) + by).ok()?;
+        dial.turn(&mut broken, by)?;
         match check(&broken.encode()).number {
             0 => kept = broken,
             question => {
@@ -76,6 +79,24 @@ fn edge(plan: &Plan, dial: Dial, by: i64) -> Option<Edge> {
 }
 
 impl Dial {
+    /// Turns the dial by what makes a tick. Rates and payloads stop one step
+    /// after their range.
+    fn turn(self, plan: &mut Plan, by: i64) -> Option<()> {
+        let lengths = frame_lengths(plan);
+        loop {
+            let word = self.word(plan);
+            *word = u32::try_from(i64::from(*word) + by).ok()?;
+            let in_range = match self {
+                Dial::Payload(_) => (46..=1_500).contains(word),
+                Dial::Rate(_) => (1..=10_000).contains(word),
+                _ => false,
+            };
+            if !in_range || frame_lengths(plan) != lengths {
+                return Some(());
+            }
+        }
+    }
+
     /// The word that the dial turns. A latency of 0 is first written out.
     fn word(self, plan: &mut Plan) -> &mut u32 {
         match self {
@@ -90,8 +111,15 @@ impl Dial {
                 }
                 &mut plan.streams[row][2]
             }
-            Dial::Wire(row) => &mut plan.streams[row][4],
+            Dial::Payload(row) => &mut plan.streams[row][4],
+            Dial::Rate(row) => &mut plan.links[row][3],
             Dial::FrameStart(row) => &mut plan.frames[row][4],
         }
     }
+}
+
+/// The ticks that each frame takes.
+fn frame_lengths(plan: &Plan) -> Vec<u32> {
+    let ticks = |&[stream, _, _, link, _]: &[u32; 5]| plan.frame_ticks(stream, link);
+    plan.frames.iter().map(ticks).collect()
 }

@@ -23,8 +23,9 @@ pub fn rows(plan: &Plan) -> String {
     );
     let piece = ["task", "job", "start", "length"];
     write(&mut text, "piece", piece, &plan.pieces);
-    write(&mut text, "link", ["from", "to", "delay"], &plan.links);
-    let stream = ["sender", "receiver", "E", "hops", "L"];
+    let link = ["from", "to", "delay", "rate"];
+    write(&mut text, "link", link, &plan.links);
+    let stream = ["sender", "receiver", "E", "hops", "payload"];
     write(&mut text, "stream", stream, &plan.streams);
     let frame = ["stream", "job", "hop", "link", "start"];
     write(&mut text, "frame", frame, &plan.frames);

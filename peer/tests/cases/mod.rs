@@ -27,8 +27,8 @@ pub fn case_b() -> Plan {
         tasks: vec![[0, 3, 20, 3, 20], [1, 3, 20, 3, 20]],
         windows: vec![[0, 0, 20], [1, 0, 20]],
         pieces: vec![[0, 0, 2, 4], [1, 0, 10, 4]],
-        links: vec![[0, 1, 1]],
-        streams: vec![[0, 1, 13, 1, 2]],
+        links: vec![[0, 1, 1, 352]],
+        streams: vec![[0, 1, 13, 1, 46]],
         frames: vec![[0, 0, 0, 0, 6]],
         buffers: vec![],
     }

@@ -77,7 +77,7 @@ def link_lanes(plan):
     """A lane for each link, by row."""
     for number, link in enumerate(plan.rows["link"]):
         nodes = f"{link.from_node}→{link.to_node}"
-        yield Lane("link", number, f"{plan.name('link', number)} · {nodes}", f"delay {link.delay}")
+        yield Lane("link", number, f"{plan.name('link', number)} · {nodes}", f"delay {link.delay}, rate {link.rate}")
 
 
 def stray_lanes(plan, meaning):

@@ -10,10 +10,10 @@ use Rattle.cases.proofs.changed.Reads as changed-reads
 use Rattle.cases.proofs.put.Reads as put-reads
 
 abbrev Inv-loop : tie.InvT-loop
-Inv-loop image₀ k at place value second other i₀ image i = (i ≤ 66) × (length image ≡ length image₀)
+Inv-loop image₀ k at place value second other i₀ image i = (i ≤ 67) × (length image ≡ length image₀)
 
 abbrev μ-loop : tie.MeasureT-loop
-μ-loop image₀ k at place value second other i₀ image i = 66 - i
+μ-loop image₀ k at place value second other i₀ image i = 67 - i
 
 -- src/main.rt:263:14
 mul-at : tie.Need-mul-at Inv-loop μ-loop
@@ -39,15 +39,15 @@ mul-value c = omega arith
 array-read-value : tie.Need-array-read-value Inv-loop μ-loop
 array-read-value c = omega arith
 
--- src/main.rt:266:28
+-- src/main.rt:267:28
 add-second : tie.Need-add-second Inv-loop μ-loop
 add-second c = omega arith
 
--- src/main.rt:266:18
+-- src/main.rt:267:18
 mul-second : tie.Need-mul-second Inv-loop μ-loop
 mul-second c = omega arith
 
--- src/main.rt:266:18
+-- src/main.rt:267:18
 array-read-second : tie.Need-array-read-second Inv-loop μ-loop
 array-read-second c = omega arith
 
