@@ -3,7 +3,7 @@
 import struct
 import sys
 
-NAMES = ["core", "vcpu", "task", "window", "piece", "link", "stream", "frame", "buffer"]
+NAMES = ["core", "vcpu", "task", "window", "piece", "link", "stream", "frame", "buffer", "chain"]
 
 
 def encode(cycle, **tables):
@@ -115,7 +115,31 @@ def refused_late():
     return encode(cycle, **rows)
 
 
-SHAPES = [many_jobs, windows, one_job, unit_jobs, last_window, long_buffers, one_number, refused_late, pieces]
+def diamond():
+    """Two messages between neighbours along a row of 64 tasks, streams between two nodes and then buffers on one: 2^63 paths. Each of 32
+    chains goes to one more task, which only the last message of the first task leads to, so that a walk looks at all others before."""
+    period = 16 * 66
+    tasks = [[row % 2 if row < 33 else 0, 3, period, 1, period] for row in range(65)]
+    pairs = [(row, row + 1) for row in range(63)]
+    streams = [[first, last, 0, 1, 46] for first, last in pairs[:32] for _ in range(2)]
+    frames = [[row, 0, 0, first % 2, 16 * first + 4 + 4 * (row % 2)] for row, (first, *_) in enumerate(streams)]
+    buffers = [list(pair) for pair in pairs[32:] for _ in range(2)] + [[0, 64], [0, 64]]
+    return encode(
+        period,
+        core=[[0, 0, 0], [1, 0, 0]],
+        vcpu=[[0], [1]],
+        task=tasks,
+        window=[[0, 0, period], [1, 0, period]],
+        piece=[[row, 0, 16 * row, 1] for row in range(65)],
+        link=[[0, 1, 1, 352], [1, 0, 1, 352]],
+        stream=streams,
+        frame=frames,
+        buffer=[[number, *ends] for number, ends in enumerate(buffers)],
+        chain=[[0, 64, 0]] * 32,
+    )
+
+
+SHAPES = [many_jobs, windows, one_job, unit_jobs, last_window, long_buffers, one_number, refused_late, diamond, pieces]
 
 
 def image(shape, *size):

@@ -28,7 +28,7 @@ static uint32_t word_at(size_t i)
 /* A word of the image's trailer. */
 static uint32_t trailer_word(size_t length, size_t i)
 {
-    const uint8_t *b = image + length - 84 + 4 * i;
+    const uint8_t *b = image + length - 92 + 4 * i;
 
     return (uint32_t)b[0] | (uint32_t)b[1] << 8 | (uint32_t)b[2] << 16 | (uint32_t)b[3] << 24;
 }
@@ -50,7 +50,7 @@ int main(int argc, char **argv)
     all = strcmp(argv[1], "all") == 0;
     length = fread(image, 1, sizeof image, from);
     fclose(from);
-    if (length < 84) {
+    if (length < 92) {
         fprintf(stderr, "build_cost: no image\n");
         return 2;
     }

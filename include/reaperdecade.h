@@ -50,7 +50,7 @@ static inline uint32_t rd_answer_row(uint64_t answer)
 }
 
 /*
- * Checks a plan image: questions 1 to 24.
+ * Checks a plan image: questions 1 to 24, then 29 to 31.
  *
  * image      image_len bytes, which are only read.
  *
@@ -59,7 +59,7 @@ static inline uint32_t rd_answer_row(uint64_t answer)
 uint64_t rd_check(const uint8_t *image, size_t image_len);
 
 /*
- * Builds the dispatch table of one lane of a plan: questions 1 to 24 again,
+ * Builds the dispatch table of one lane of a plan: the check's questions again,
  * then 25 (is there such a lane?) and 26 (do the words suffice?).
  *
  * image      image_len bytes, which are only read.
@@ -79,8 +79,8 @@ uint64_t rd_build(const uint8_t *image, size_t image_len, uint32_t lane, uint8_t
 
 /*
  * Builds the dispatch tables of all lanes, one after another, lanes rising:
- * questions 1 to 24 once, then 26 of all tables together. For a load tool that
- * wants every table: rd_build asks 1 to 24 again for each lane.
+ * the check's questions once, then 26 of all tables together. For a load tool
+ * that wants every table: rd_build checks again for each lane.
  *
  * image      image_len bytes, which are only read.
  * words      words_len bytes, of which words_len / 4 words count.

@@ -50,7 +50,7 @@ fn edited(image: &[u8], rng: &mut Rng) -> Option<Vec<u8>> {
 
 /// Changes one table, or H and P.
 fn edit_plan(plan: &mut Plan, rng: &mut Rng) {
-    match rng.below(10) {
+    match rng.below(11) {
         0 => edit_rows(&mut plan.cores, rng),
         1 => edit_rows(&mut plan.vcpus, rng),
         2 => edit_rows(&mut plan.tasks, rng),
@@ -60,6 +60,7 @@ fn edit_plan(plan: &mut Plan, rng: &mut Rng) {
         6 => edit_rows(&mut plan.streams, rng),
         7 => edit_rows(&mut plan.frames, rng),
         8 => edit_rows(&mut plan.buffers, rng),
+        9 => edit_rows(&mut plan.chains, rng),
         _ => {
             let mut head = [[plan.cycle, plan.precision]];
             edit_word(&mut head, rng);

@@ -15,8 +15,8 @@ pub trait Boundary {
     fn step(&self, words: &[u8], state: &mut [u8]) -> u32;
     fn step_all(&self, words: &[u8], states: &mut [u8]) -> u32;
 
-    /// All lanes' tables, one after another. Asks 1 to 24, then 26 of all
-    /// words together.
+    /// All lanes' tables, one after another. Asks what the check asks,
+    /// then 26 of all words together.
     fn build_all(&self, image: &[u8], words: &mut [u8]) -> u64 {
         let answer = self.check(image);
         if answer != 0 {

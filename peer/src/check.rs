@@ -1,4 +1,4 @@
-//! Questions 1 to 24, in the paper's order.
+//! Questions 1 to 24 and 29 to 31, in the papers' order.
 //!
 //! Each question may rely on a yes to those before it. Sums and products are
 //! taken in 64 bits, where no words of 32 bits can make them wrap.
@@ -6,11 +6,12 @@
 use crate::answer::Answer;
 use crate::charges::charges;
 use crate::image::{
-    word_at, Link, Plan, Trailer, BUFFER, CORE, FRAME, LINK, LONGEST, PIECE, ROW_BOUNDS, STREAM,
-    TASK, TRAILER, VCPU, WIDTHS, WINDOW, WORD,
+    word_at, Link, Plan, Trailer, BUFFER, CHAIN, CORE, FRAME, LINK, LONGEST, PIECE, ROW_BOUNDS,
+    STREAM, TASK, TRAILER, VCPU, WIDTHS, WINDOW, WORD,
 };
 use crate::intervals::{lowest_clash, Interval};
 use crate::jobs::{Job, Jobs};
+use crate::paths::Paths;
 use crate::routes::Routes;
 
 /// The first question answered no, with its table and row, or 0 0 0.
@@ -21,7 +22,7 @@ pub fn check(image: &[u8]) -> Answer {
     }
 }
 
-/// The plan of an image in which all 24 questions are answered yes.
+/// The plan of an image in which all these questions are answered yes.
 pub fn examine(image: &[u8]) -> Result<Plan, Answer> {
     ask_layout(image)?;
     let plan = Plan::decode(image);
@@ -34,6 +35,7 @@ pub fn examine(image: &[u8]) -> Result<Plan, Answer> {
     let jobs = Jobs::of(&plan)?;
     ask_streams(&plan, &jobs)?;
     ask_buffers(&plan, &jobs)?;
+    ask_chains(&plan, &jobs)?;
     Ok(plan)
 }
 
@@ -94,7 +96,7 @@ fn tables_adjoin(trailer: &Trailer, trailer_begin: u64) -> bool {
 
 /// Question 5.
 fn ask_references(plan: &Plan) -> Result<(), Answer> {
-    let [cores, vcpus, tasks, _, _, links, streams, _, _] = plan.counts();
+    let [cores, vcpus, tasks, _, _, links, streams, ..] = plan.counts();
     let names = |number: u32, rows: usize| (number as usize) < rows;
     ask(5, VCPU, &plan.vcpus, |&[core]| names(core, cores))?;
     ask(5, TASK, &plan.tasks, |&[vcpu, ..]| names(vcpu, vcpus))?;
@@ -411,4 +413,33 @@ fn shared_holds(plan: &Plan, jobs: &Jobs) -> Vec<Interval> {
         }
     }
     holds
+}
+
+/// Questions 29 to 31.
+fn ask_chains(plan: &Plan, jobs: &Jobs) -> Result<(), Answer> {
+    let exists = |task: u32| (task as usize) < plan.tasks.len();
+    ask(29, CHAIN, &plan.chains, |&[first, last, _]| {
+        exists(first) && exists(last) && first != last
+    })?;
+    let paths = Paths::of(plan);
+    ask(30, CHAIN, &plan.chains, |&[first, last, _]| {
+        paths.join(first, last)
+    })?;
+    ask(31, CHAIN, &plan.chains, |chain| {
+        chain_in_time(plan, jobs, chain)
+    })
+}
+
+/// Question 31 for one chain. Along a path all periods are equal, by 14 and
+/// 22, so that its ends have equally many jobs.
+fn chain_in_time(plan: &Plan, jobs: &Jobs, &[first, last, limit]: &[u32; 3]) -> bool {
+    let limit = match limit {
+        0 => plan.period(first),
+        given => given,
+    };
+    let mut pairs = jobs.of_task(first).iter().zip(jobs.of_task(last));
+    pairs.all(|(first, last)| {
+        let done = wide(last.last_end) + wide(plan.precision);
+        done <= wide(first.first_start) + wide(limit)
+    })
 }

@@ -2,9 +2,15 @@
 
 use std::fmt;
 
-/// A count for 0, accepted, and for each of the questions 1 to 24.
+/// The questions that are asked of an image: 25 to 28 are asked of lanes, lent
+/// words and states.
+pub fn questions() -> impl Iterator<Item = u32> {
+    (1..=24).chain(29..=31)
+}
+
+/// A count for 0, accepted, and for each question of an image.
 #[derive(Clone, Debug, Default)]
-pub struct Histogram([u64; 25]);
+pub struct Histogram([u64; 32]);
 
 impl Histogram {
     /// Counts one image by the number of its answer.
@@ -17,9 +23,9 @@ impl Histogram {
     }
 
     /// The questions that are the first to refuse less than one image in a hundred.
-    pub fn rare(&self) -> Vec<usize> {
-        let is_rare = |number: &usize| 100 * self.0[*number] < self.total();
-        (1..=24).filter(is_rare).collect()
+    pub fn rare(&self) -> Vec<u32> {
+        let is_rare = |number: &u32| 100 * self.0[*number as usize] < self.total();
+        questions().filter(is_rare).collect()
     }
 }
 
@@ -27,8 +33,9 @@ impl Histogram {
 impl fmt::Display for Histogram {
     fn fmt(&self, out: &mut fmt::Formatter<'_>) -> fmt::Result {
         let total = self.total().max(1) as f64;
-        for (number, count) in self.0.iter().enumerate() {
-            let percent = 100.0 * *count as f64 / total;
+        for number in std::iter::once(0).chain(questions()) {
+            let count = self.0[number as usize];
+            let percent = 100.0 * count as f64 / total;
             writeln!(out, "{number:2} {count:7} {percent:6.2} %")?;
         }
         Ok(())

@@ -1,4 +1,4 @@
-//! The plan image: nine tables of 32-bit little-endian words, then a trailer.
+//! The plan image: ten tables of 32-bit little-endian words, then a trailer.
 
 /// Bytes of a word.
 pub const WORD: usize = 4;
@@ -13,12 +13,16 @@ pub const LINK: u32 = 6;
 pub const STREAM: u32 = 7;
 pub const FRAME: u32 = 8;
 pub const BUFFER: u32 = 9;
+pub const CHAIN: u32 = 10;
+
+/// The number of tables.
+pub const TABLES: usize = 10;
 
 /// Words of a row, table by table. All sizes follow from these and from the
 /// highest row counts.
-pub const WIDTHS: [usize; 9] = [3, 1, 5, 3, 4, 4, 5, 5, 3];
+pub const WIDTHS: [usize; TABLES] = [3, 1, 5, 3, 4, 4, 5, 5, 3, 3];
 /// The least and the highest row count, table by table.
-pub const ROW_BOUNDS: [(u32, u32); 9] = [
+pub const ROW_BOUNDS: [(u32, u32); TABLES] = [
     (1, 32),
     (0, 64),
     (0, 256),
@@ -28,6 +32,7 @@ pub const ROW_BOUNDS: [(u32, u32); 9] = [
     (0, 64),
     (0, 512),
     (0, 64),
+    (0, 32),
 ];
 
 /// Words of a table's row.
@@ -37,13 +42,13 @@ pub const fn width(table: u32) -> usize {
 
 /// Bytes of the trailer with the last word: H, P, an offset and a count for
 /// each table, and that word itself.
-pub const TRAILER: usize = (2 + 2 * WIDTHS.len() + 1) * WORD;
+pub const TRAILER: usize = (2 + 2 * TABLES + 1) * WORD;
 
 /// The longest image: every table at its highest row count.
 pub const LONGEST: usize = {
     let mut length = TRAILER;
     let mut table = 0;
-    while table < WIDTHS.len() {
+    while table < TABLES {
         length += WIDTHS[table] * WORD * ROW_BOUNDS[table].1 as usize;
         table += 1;
     }
@@ -82,6 +87,8 @@ pub struct Plan {
     pub frames: Vec<[u32; width(FRAME)]>,
     /// buffer number, writer task, reader task
     pub buffers: Vec<[u32; width(BUFFER)]>,
+    /// first task, last task, limit
+    pub chains: Vec<[u32; width(CHAIN)]>,
 }
 
 /// What the trailer says: H, P, and each table's byte offset and row count.
@@ -89,7 +96,7 @@ pub struct Plan {
 pub struct Trailer {
     pub cycle: u32,
     pub precision: u32,
-    pub tables: [(u32, u32); 9],
+    pub tables: [(u32, u32); TABLES],
 }
 
 /// The word at a byte of the image.
@@ -104,7 +111,7 @@ pub fn set_word(image: &mut [u8], byte: usize, word: u32) {
 }
 
 impl Trailer {
-    /// Reads the trailer of an image of at least 84 bytes.
+    /// Reads the trailer of an image of at least 92 bytes.
     pub fn read(image: &[u8]) -> Trailer {
         let begin = image.len() - TRAILER;
         let field = |index: usize| word_at(image, begin + index * WORD);
@@ -130,6 +137,7 @@ impl Plan {
             append(&mut image, &self.streams),
             append(&mut image, &self.frames),
             append(&mut image, &self.buffers),
+            append(&mut image, &self.chains),
         ];
         let begin = image.len() as u32;
         put(&mut image, &[self.cycle, self.precision]);
@@ -156,11 +164,12 @@ impl Plan {
             streams: rows(image, tables[6]),
             frames: rows(image, tables[7]),
             buffers: rows(image, tables[8]),
+            chains: rows(image, tables[9]),
         }
     }
 
     /// The row counts, table by table.
-    pub fn counts(&self) -> [usize; 9] {
+    pub fn counts(&self) -> [usize; TABLES] {
         [
             self.cores.len(),
             self.vcpus.len(),
@@ -171,6 +180,7 @@ impl Plan {
             self.streams.len(),
             self.frames.len(),
             self.buffers.len(),
+            self.chains.len(),
         ]
     }
 

@@ -10,9 +10,9 @@ use crate::dispatch::State;
 type Number = i128;
 
 /// By table number; the tables count from 1.
-const WORDS_OF_A_ROW: [Number; 10] = [0, 3, 1, 5, 3, 4, 4, 5, 5, 3];
-const LEAST_ROWS: [Number; 10] = [0, 1, 0, 0, 0, 0, 0, 0, 0, 0];
-const MOST_ROWS: [Number; 10] = [0, 32, 64, 256, 1024, 2048, 64, 64, 512, 64];
+const WORDS_OF_A_ROW: [Number; 11] = [0, 3, 1, 5, 3, 4, 4, 5, 5, 3, 3];
+const LEAST_ROWS: [Number; 11] = [0, 1, 0, 0, 0, 0, 0, 0, 0, 0, 0];
+const MOST_ROWS: [Number; 11] = [0, 32, 64, 256, 1024, 2048, 64, 64, 512, 64, 32];
 
 const CORE: usize = 1;
 const VCPU: usize = 2;
@@ -23,6 +23,7 @@ const LINK: usize = 6;
 const STREAM: usize = 7;
 const FRAME: usize = 8;
 const BUFFER: usize = 9;
+const CHAIN: usize = 10;
 
 /// Where a question is answered no.
 enum No {
@@ -30,10 +31,10 @@ enum No {
     Row(usize, Number),
 }
 
-/// Questions 1 to 24.
+/// Questions 1 to 24, then 29 to 31.
 pub fn check(image: &[u8]) -> Answer {
     let asked = Image { bytes: image };
-    for number in 1..=24 {
+    for number in (1..=24).chain(29..=31) {
         match asked.question(number) {
             None => {}
             Some(No::Plain) => return Answer::plain(number),
@@ -43,7 +44,7 @@ pub fn check(image: &[u8]) -> Answer {
     Answer::ACCEPTED
 }
 
-/// Questions 1 to 26, then the table.
+/// The same, then 25 and 26, then the table.
 pub fn build(image: &[u8], lane: u32, words: &mut [u32]) -> Answer {
     let answer = check(image);
     if !answer.is_accepted() {
@@ -93,7 +94,7 @@ impl Image<'_> {
     }
 
     fn trailer(&self, index: Number) -> Number {
-        self.word(self.length() - 84 + 4 * index)
+        self.word(self.length() - 92 + 4 * index)
     }
 
     fn cycle(&self) -> Number {
@@ -240,6 +241,15 @@ impl Image<'_> {
     fn reader(&self, buffer: Number) -> Number {
         self.cell(BUFFER, buffer, 2)
     }
+    fn first_task(&self, chain: Number) -> Number {
+        self.cell(CHAIN, chain, 0)
+    }
+    fn last_task(&self, chain: Number) -> Number {
+        self.cell(CHAIN, chain, 1)
+    }
+    fn limit(&self, chain: Number) -> Number {
+        self.cell(CHAIN, chain, 2)
+    }
 }
 
 /// What the paper's words before the questions say.
@@ -325,8 +335,8 @@ fn overlap(a: Number, b: Number, c: Number, d: Number) -> bool {
 impl Image<'_> {
     fn question(&self, number: u32) -> Option<No> {
         match number {
-            1 => plain((84..=64_212).contains(&self.length())),
-            2 => plain(self.last_word() == self.length() - 84),
+            1 => plain((92..=64_604).contains(&self.length())),
+            2 => plain(self.last_word() == self.length() - 92),
             3 => plain(self.layout_is_right()),
             4 => plain((1..=1_000_000).contains(&self.cycle()) && self.precision() <= 10_000),
             5 => self.each_row(|table, row| self.row_numbers_exist(table, row)),
@@ -349,13 +359,16 @@ impl Image<'_> {
             22 => self.each(BUFFER, |buffer| self.sides_match(buffer)),
             23 => self.each(BUFFER, |buffer| self.read_after_write(buffer)),
             24 => self.no_pair(BUFFER, |low, high| self.holds_clash(low, high)),
+            29 => self.each(CHAIN, |chain| self.tasks_exist_and_differ(chain)),
+            30 => self.each(CHAIN, |chain| self.path_joins(chain)),
+            31 => self.each(CHAIN, |chain| self.chain_in_time(chain)),
             _ => None,
         }
     }
 
     /// All rows of all tables, lowest table first, then lowest row.
     fn each_row(&self, yes: impl Fn(usize, Number) -> bool) -> Option<No> {
-        (1..=9).find_map(|table| self.each(table, |row| yes(table, row)))
+        (1..=10).find_map(|table| self.each(table, |row| yes(table, row)))
     }
 
     fn each(&self, table: usize, yes: impl Fn(Number) -> bool) -> Option<No> {
@@ -371,10 +384,10 @@ impl Image<'_> {
     fn layout_is_right(&self) -> bool {
         let bounds =
             |table: usize| (LEAST_ROWS[table]..=MOST_ROWS[table]).contains(&self.rows(table));
-        (1..=9).all(bounds)
+        (1..=10).all(bounds)
             && self.offset(1) == 0
-            && (2..=9).all(|table| self.offset(table) == self.end(table - 1))
-            && self.end(9) == self.last_word()
+            && (2..=10).all(|table| self.offset(table) == self.end(table - 1))
+            && self.end(10) == self.last_word()
     }
 
     fn row_numbers_exist(&self, table: usize, row: Number) -> bool {
@@ -580,6 +593,43 @@ impl Image<'_> {
         let (writer, reader) = (self.writer(buffer), self.reader(buffer));
         let hold = |job| (self.first_start(writer, job), self.last_end(reader, job));
         (0..self.jobs(writer)).map(hold).collect()
+    }
+
+    fn tasks_exist_and_differ(&self, chain: Number) -> bool {
+        let (first, last) = (self.first_task(chain), self.last_task(chain));
+        first < self.rows(TASK) && last < self.rows(TASK) && first != last
+    }
+
+    /// Round by round: the messages that the tasks reached by then send, and
+    /// the tasks that read these. No path takes more rounds than there are
+    /// tasks.
+    fn path_joins(&self, chain: Number) -> bool {
+        let mut reached = vec![false; self.rows(TASK) as usize];
+        reached[self.first_task(chain) as usize] = true;
+        for _ in 0..self.rows(TASK) {
+            let before = reached.clone();
+            let sent = |task: Number| before[task as usize];
+            for stream in (0..self.rows(STREAM)).filter(|stream| sent(self.sender(*stream))) {
+                reached[self.receiver(stream) as usize] = true;
+            }
+            for buffer in (0..self.rows(BUFFER)).filter(|buffer| sent(self.writer(*buffer))) {
+                reached[self.reader(buffer) as usize] = true;
+            }
+        }
+        reached[self.last_task(chain) as usize]
+    }
+
+    fn chain_in_time(&self, chain: Number) -> bool {
+        let (first, last) = (self.first_task(chain), self.last_task(chain));
+        let limit = if self.limit(chain) == 0 {
+            self.period(first)
+        } else {
+            self.limit(chain)
+        };
+        (0..self.jobs(first)).all(|job| {
+            let taken = self.last_end(last, job) - self.first_start(first, job);
+            taken + self.precision() <= limit
+        })
     }
 }
 

@@ -1,8 +1,10 @@
 //! The fast implementation against its naive twin on thousands of images.
 
-use peer::generate::{busy_core, full, kept_core, medium, rich, small, small_rich, unit_periods};
+use peer::generate::{
+    busy_core, diamond, full, kept_core, medium, rich, small, small_rich, unit_periods,
+};
 use peer::mutate::{mutant, mutate};
-use peer::{build, check, naive, step, step_all, Answer, Plan, Rng, State};
+use peer::{build, check, naive, questions, step, step_all, Answer, Plan, Rng, State};
 
 #[track_caller]
 fn compare(image: &[u8]) -> Answer {
@@ -16,22 +18,25 @@ fn compare(image: &[u8]) -> Answer {
 
 #[test]
 fn mutants_of_all_questions() {
-    let mut refusals = [0; 25];
+    let mut refusals = [0; 32];
     for case in 0..6_000 {
         let image = mutant(&mut Rng::for_case(10, case));
         refusals[compare(&image).number as usize] += 1;
     }
     println!("{refusals:?}");
-    assert!(refusals.iter().all(|&count| count >= 60), "{refusals:?}");
+    let asked = std::iter::once(0).chain(questions());
+    let mut counts = asked.map(|number| refusals[number as usize]);
+    assert!(counts.all(|count| count >= 60), "{refusals:?}");
 }
 
 #[test]
 fn mutants_of_large_plans() {
-    for case in 0..6 {
+    for case in 0..8 {
         let mut rng = Rng::for_case(11, case);
-        let plan = match case % 3 {
+        let plan = match case % 4 {
             0 => full(&mut rng),
             1 => busy_core(&mut rng),
+            2 => diamond(&mut rng),
             _ => unit_periods(&mut rng),
         };
         compare(&mutate(&plan, &mut rng));
@@ -98,7 +103,7 @@ fn rough(rng: &mut Rng) -> Plan {
 
 #[test]
 fn rough_plans() {
-    let mut refusals = [0; 25];
+    let mut refusals = [0; 32];
     for case in 0..30_000 {
         let plan = rough(&mut Rng::for_case(12, case));
         refusals[compare(&plan.encode()).number as usize] += 1;
@@ -109,7 +114,7 @@ fn rough_plans() {
 /// Accepted plans whose words are shaken a little, most of them in starts.
 #[test]
 fn shaken_plans() {
-    let mut refusals = [0; 25];
+    let mut refusals = [0; 32];
     for case in 0..8_000 {
         let mut rng = Rng::for_case(13, case);
         let mut plan = match rng.below(10) {
@@ -161,7 +166,7 @@ fn shaken_plans() {
 /// with buffers between any tasks.
 #[test]
 fn rough_messages() {
-    let mut refusals = [0; 25];
+    let mut refusals = [0; 32];
     for case in 0..10_000 {
         let mut rng = Rng::for_case(18, case);
         let mut plan = small_rich(&mut rng);

@@ -1,8 +1,8 @@
 //! The generator's plans are accepted, and its shapes are what they say.
 
 use peer::generate::{
-    accepted, bare, busy_core, cut_window, full, kept_core, large, medium, rich, shared_buffer,
-    small, tiny, unit_periods,
+    accepted, bare, busy_core, cut_window, diamond, full, kept_core, large, medium, rich,
+    shared_buffer, small, tiny, unit_periods,
 };
 use peer::{check, Answer, Plan, Rng};
 
@@ -30,14 +30,18 @@ fn every_shape_is_accepted() {
     all_accepted(500, rich);
     all_accepted(100, large);
     all_accepted(10, busy_core);
+    all_accepted(100, diamond);
     all_accepted(10, full);
 }
 
 #[test]
 fn full_plans_have_every_row() {
     let plan = full(&mut Rng::new(3));
-    assert_eq!(plan.counts(), [32, 64, 256, 1024, 2048, 64, 64, 512, 64]);
-    assert_eq!(plan.encode().len(), 64_212);
+    assert_eq!(
+        plan.counts(),
+        [32, 64, 256, 1024, 2048, 64, 64, 512, 64, 32]
+    );
+    assert_eq!(plan.encode().len(), 64_604);
 }
 
 /// An accepted plan stays one, however often its windows are cut where no
@@ -271,6 +275,139 @@ fn tiny_plans_are_dense() {
     all_met(tiny, 2_000, &[("at most 60 ticks", short)]);
     all_met(shared_buffer, 2_000, &[("at most 60 ticks", short)]);
     all_met(kept_core, 2_000, &[("at most 60 ticks", short)]);
+}
+
+#[test]
+fn chains_are_many() {
+    let features: [(&str, Feature); 14] = [
+        ("a chain of one message", |plan| {
+            any_chain(plan, |plan, chain| {
+                fewest(plan, chain, true, true) == Some(1)
+            })
+        }),
+        ("streams alone, several", |plan| {
+            any_chain(plan, |plan, chain| {
+                let several = fewest(plan, chain, true, true) > Some(1);
+                several && fewest(plan, chain, true, false).is_some()
+            })
+        }),
+        ("buffers alone, several", |plan| {
+            any_chain(plan, |plan, chain| {
+                let several = fewest(plan, chain, true, true) > Some(1);
+                several && fewest(plan, chain, false, true).is_some()
+            })
+        }),
+        ("only streams and buffers together", is_mixed),
+        ("three messages or more", |plan| {
+            any_chain(plan, |plan, chain| {
+                fewest(plan, chain, true, true) >= Some(3)
+            })
+        }),
+        ("several messages of the first task", |plan| {
+            any_chain(plan, |plan, chain| {
+                messages(plan)
+                    .iter()
+                    .filter(|row| row[0] == chain[0])
+                    .count()
+                    > 1
+            })
+        }),
+        ("two messages between the same tasks", |plan| {
+            any_chain(plan, |plan, chain| {
+                messages(plan)
+                    .iter()
+                    .filter(|row| row[..] == chain[..2])
+                    .count()
+                    > 1
+            })
+        }),
+        ("several jobs", |plan| {
+            any_chain(plan, |plan, chain| plan.jobs(chain[0]) > 1)
+        }),
+        ("several jobs, not all alike", |plan| {
+            any_chain(plan, |plan, chain| {
+                let taken = taken(plan, chain);
+                taken.iter().any(|ticks| *ticks > taken[0])
+            })
+        }),
+        ("both ends on one node, P not 0", |plan| {
+            plan.precision > 0
+                && any_chain(plan, |plan, chain| {
+                    plan.node_of_task(chain[0]) == plan.node_of_task(chain[1])
+                })
+        }),
+        ("a limit of 0", |plan| {
+            any_chain(plan, |_, chain| chain[2] == 0)
+        }),
+        ("a limit exactly met", |plan| {
+            any_chain(plan, |plan, chain| {
+                let longest = taken(plan, chain).into_iter().max();
+                longest.map(|ticks| ticks + plan.precision) == Some(chain[2])
+            })
+        }),
+        ("a limit beyond the cycle", |plan| {
+            any_chain(plan, |plan, chain| chain[2] > plan.cycle)
+        }),
+        ("more than eight chains", |plan| plan.chains.len() > 8),
+    ];
+    all_met(accepted, 40, &features);
+    all_met(tiny, 40, &features);
+    all_met(rich, 40, &features);
+}
+
+/// Sender and reader of every message.
+fn messages(plan: &Plan) -> Vec<[u32; 2]> {
+    let streams = plan.streams.iter().map(|row| [row[0], row[1]]);
+    let buffers = plan.buffers.iter().map(|row| [row[1], row[2]]);
+    streams.chain(buffers).collect()
+}
+
+fn any_chain(plan: &Plan, holds: fn(&Plan, &[u32; 3]) -> bool) -> bool {
+    plan.chains.iter().any(|chain| holds(plan, chain))
+}
+
+fn is_mixed(plan: &Plan) -> bool {
+    any_chain(plan, |plan, chain| {
+        let alone = fewest(plan, chain, true, false).or(fewest(plan, chain, false, true));
+        alone.is_none()
+    })
+}
+
+/// The fewest messages of a path from a chain's first task to its last, if
+/// streams count and if buffers do.
+fn fewest(plan: &Plan, &[first, last, _]: &[u32; 3], streams: bool, buffers: bool) -> Option<u32> {
+    let mut counted = plan.clone();
+    if !streams {
+        counted.streams.clear();
+    }
+    if !buffers {
+        counted.buffers.clear();
+    }
+    let messages = messages(&counted);
+    let mut reached = vec![first];
+    for count in 1..=plan.tasks.len() as u32 {
+        let leads_on = |row: &&[u32; 2]| reached.contains(&row[0]);
+        reached = messages.iter().filter(leads_on).map(|row| row[1]).collect();
+        reached.dedup();
+        if reached.contains(&last) {
+            return Some(count);
+        }
+    }
+    None
+}
+
+/// From the first task's start to the last one's end, job by job.
+fn taken(plan: &Plan, &[first, last, _]: &[u32; 3]) -> Vec<u32> {
+    let of_job = |task: u32, k: u32| plan.pieces.iter().filter(move |row| row[..2] == [task, k]);
+    let span = |k: u32| {
+        let start = of_job(first, k).map(|row| row[2]).min().unwrap_or(0);
+        let end = of_job(last, k)
+            .map(|row| row[2] + row[3])
+            .max()
+            .unwrap_or(0);
+        end - start
+    };
+    (0..plan.jobs(first)).map(span).collect()
 }
 
 fn has_hops(plan: &Plan, hops: u32) -> bool {

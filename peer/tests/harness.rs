@@ -4,6 +4,7 @@
 use peer::boundary::{Boundary, Peer, STATE};
 use peer::harness::{run, Settings};
 use peer::naive::Naive;
+use peer::questions;
 
 const SMALL: Settings = Settings {
     seed: 5,
@@ -204,7 +205,8 @@ fn each_fault_is_found() {
         cases: 3_000,
         ..SMALL
     };
-    for fault in FAULTS.into_iter().chain((1..=24).map(NeverAsks)) {
+    let never_asked = questions().map(|number| NeverAsks(u64::from(number)));
+    for fault in FAULTS.into_iter().chain(never_asked) {
         let found = run(&settings, &Peer, &Faulty(fault));
         assert!(found.is_err(), "{fault:?} goes unnoticed");
     }

@@ -2,7 +2,7 @@
 
 mod cases;
 
-use cases::{case_a, case_b};
+use cases::{case_a, case_b, case_chain, two_rows};
 use peer::image::{LONGEST, TRAILER};
 use peer::{build, check, naive, report, start, step, step_all, Answer, Plan, State};
 
@@ -25,8 +25,8 @@ fn changed(mut plan: Plan, change: impl Fn(&mut Plan), number: u32, table: u32, 
 #[test]
 fn a_prints_whole() {
     let image = case_a().encode();
-    assert_eq!(image.len(), 148);
-    assert_eq!(image[144..], [64, 0, 0, 0]);
+    assert_eq!(image.len(), 156);
+    assert_eq!(image[152..], [64, 0, 0, 0]);
     expect(&image, 0, 0, 0);
     let text = "0 0 0\n0 0 1 0\n0 2 3 0\n0 3 4 0\n0 6 2 0\n";
     assert_eq!(report(&image), text);
@@ -56,7 +56,7 @@ fn a_changed() {
 #[test]
 fn a_as_bytes() {
     let mut image = case_a().encode();
-    image[144] = 63;
+    image[152] = 63;
     expect(&image, 2, 0, 0);
     expect(&[], 1, 0, 0);
 }
@@ -396,7 +396,7 @@ fn each_hop_has_its_own_rate() {
 /// The paper's sizes, which the code reckons from widths and counts.
 #[test]
 fn sizes_are_the_papers() {
-    assert_eq!((TRAILER, LONGEST), (84, 64_212));
+    assert_eq!((TRAILER, LONGEST), (92, 64_604));
 }
 
 /// An image of case B with link rows of three words.
@@ -407,11 +407,132 @@ fn old_link_rows_are_refused() {
     let begin = 4 * (2 * 3 + 2 + 2 * 5 + 2 * 3 + 2 * 4);
     image.drain(begin + 12..begin + 16);
     let length = image.len();
-    for table in 7..=9 {
-        let at = length - 84 + 8 * table;
+    for table in 7..=10 {
+        let at = length - 92 + 8 * table;
         let offset = u32::from_le_bytes([image[at], image[at + 1], 0, 0]);
         image[at..at + 4].copy_from_slice(&(offset - 4).to_le_bytes());
     }
-    image[length - 4..].copy_from_slice(&(length as u32 - 84).to_le_bytes());
+    image[length - 4..].copy_from_slice(&(length as u32 - 92).to_le_bytes());
     expect(&image, 3, 0, 0);
+}
+
+/// Request 3: chains over several messages.
+#[test]
+fn lengths_are_bounded() {
+    expect(&[0; 84], 1, 0, 0);
+    expect(&[0; 91], 1, 0, 0);
+    expect(&[0; 92], 3, 0, 0);
+    for (length, number) in [(64_604, 3), (64_605, 1)] {
+        let mut image = vec![0; length];
+        image[length - 4..].copy_from_slice(&(length as u32 - 92).to_le_bytes());
+        expect(&image, number, 0, 0);
+    }
+}
+
+/// Case A as it was: nine tables, 148 bytes, last word 64.
+#[test]
+fn old_images_are_refused() {
+    let mut image = case_a().encode();
+    image.drain(144..152);
+    assert_eq!((image.len(), image[144]), (148, 64));
+    expect(&image, 2, 0, 0);
+    image[144] = 148 - 92;
+    expect(&image, 3, 0, 0);
+}
+
+#[track_caller]
+fn expect_chains(chains: &[[u32; 3]], number: u32, row: u32) {
+    let mut plan = case_chain();
+    plan.chains = chains.to_vec();
+    let table = if number == 0 { 0 } else { 10 };
+    expect(&plan.encode(), number, table, row);
+}
+
+/// 2 to 6, 10 to 14 and 14 to 18 are the pieces, P is 1 and T is 20.
+#[test]
+fn chains_keep_their_limits() {
+    expect_chains(&[], 0, 0);
+    expect_chains(&[[0, 2, 17]], 0, 0);
+    expect_chains(&[[0, 2, 16]], 31, 0);
+    expect_chains(&[[0, 2, 0]], 0, 0);
+    expect_chains(&[[0, 2, 1]], 31, 0);
+    expect_chains(&[[0, 2, u32::MAX]], 0, 0);
+    expect_chains(&[[0, 1, 13]], 0, 0);
+    expect_chains(&[[0, 1, 12]], 31, 0);
+    // P counts on one node too.
+    expect_chains(&[[1, 2, 9]], 0, 0);
+    expect_chains(&[[1, 2, 8]], 31, 0);
+    expect_chains(&[[0, 2, 17]; 32], 0, 0);
+    expect_chains(&[[0, 2, 17], [1, 2, 8], [0, 2, 16]], 31, 1);
+}
+
+#[test]
+fn chains_have_tasks_and_paths() {
+    for [first, last] in [[0, 3], [3, 0], [0, u32::MAX], [1 << 31, 2], [3, 3], [1, 1]] {
+        expect_chains(&[[0, 2, 17], [first, last, 0]], 29, 1);
+    }
+    for [first, last] in [[1, 0], [2, 0], [2, 1]] {
+        expect_chains(&[[0, 2, 17], [first, last, u32::MAX]], 30, 1);
+    }
+}
+
+/// Each question is asked over all rows before the next.
+#[test]
+fn chains_are_asked_question_by_question() {
+    expect_chains(&[[0, 2, 16], [2, 0, 99], [0, 9, 5]], 29, 2);
+    expect_chains(&[[0, 2, 16], [2, 0, 99]], 30, 1);
+    expect_chains(&[[0, 2, 16]], 31, 0);
+}
+
+/// Questions 5 and 6 pass over table 10, and all others up to 24 come first.
+#[test]
+fn chains_are_asked_last() {
+    let mut plan = case_chain();
+    plan.chains = vec![[u32::MAX; 3]];
+    expect(&plan.encode(), 29, 10, 0);
+    let broken = plan.clone();
+    changed(broken.clone(), |plan| plan.buffers[0][0] = 64, 6, 9, 0);
+    changed(broken.clone(), |plan| plan.pieces[2][3] = 5, 13, 3, 2);
+    changed(broken, |plan| plan.pieces[2][2] = 15, 29, 10, 0);
+    let mut plan = two_rows();
+    plan.chains = vec![[0, 3, 1]];
+    changed(plan, |plan| plan.pieces[2][2] = 5, 24, 9, 1);
+    let mut plan = case_a();
+    plan.tasks.clear();
+    plan.pieces.clear();
+    plan.chains = vec![[0, 1, 0]];
+    expect(&plan.encode(), 29, 10, 0);
+}
+
+#[test]
+fn chains_are_at_most_32() {
+    let mut plan = case_chain();
+    plan.chains = vec![[0, 2, 17]; 33];
+    expect(&plan.encode(), 3, 0, 0);
+}
+
+/// A limit of 0 is the first task's period, 10, and no more.
+#[test]
+fn chains_without_a_limit_have_their_period() {
+    let mut plan = two_rows();
+    plan.chains = vec![[0, 1, 0]];
+    changed(plan.clone(), |plan| plan.precision = 4, 0, 0, 0);
+    changed(plan, |plan| plan.precision = 5, 31, 10, 0);
+}
+
+/// A chain of two jobs, of which the second takes a tick longer.
+#[test]
+fn chains_are_asked_of_every_job() {
+    let mut plan = two_rows();
+    plan.cycle = 20;
+    plan.windows = vec![[0, 0, 20], [1, 0, 20]];
+    plan.buffers.truncate(1);
+    for [task, _, start, length] in plan.pieces.clone() {
+        plan.pieces.push([task, 1, start + 10, length]);
+    }
+    plan.pieces[5][2] += 1;
+    plan.chains = vec![[0, 1, 7]];
+    expect(&plan.encode(), 0, 0, 0);
+    plan.chains = vec![[0, 1, 6]];
+    expect(&plan.encode(), 31, 10, 0);
 }

@@ -2,7 +2,7 @@
 
 mod cases;
 
-use cases::{case_a, case_b, two_rows};
+use cases::{case_a, case_b, case_chain, two_rows};
 use peer::boundary::{read_state, read_words, write_state, Boundary, Peer, STATE};
 use peer::generate::{shared_buffer, tiny};
 use peer::naive::Naive;
@@ -308,6 +308,30 @@ fn each_claim_fails_alone() {
         promise(&mut promised);
         assert_eq!(broken_claims(&case_b(), &promised), claims, "{number}");
     }
+}
+
+/// A chain that is longer than was promised, and chains of each job and cycle:
+/// as many end as there are jobs of completed cycles.
+#[test]
+fn a_chain_fails_alone() {
+    let promises: [([u32; 3], &[Claim]); 5] = [
+        ([0, 2, 17], &[]),
+        ([0, 2, 16], &[Claim::Chain]),
+        ([1, 2, 8], &[]),
+        ([1, 2, 7], &[Claim::Chain]),
+        ([0, 1, 12], &[Claim::Chain]),
+    ];
+    for (chain, claims) in promises {
+        let mut promised = case_chain();
+        promised.chains = vec![chain];
+        assert_eq!(broken_claims(&case_chain(), &promised), claims, "{chain:?}");
+    }
+    let tables = Tables::built(&case_chain(), &Peer).expect("the plan is accepted");
+    let run = Run::make(&Peer, &tables, 7, &all_lanes(3 * 20 + 17));
+    let choices = choices(&case_chain(), 1, &mut Rng::new(1));
+    let report = examine(&case_chain(), &tables, &run, &choices);
+    assert_eq!(report.at_end.of(Fact::ChainEnded), 3);
+    assert!(report.violations.is_empty());
 }
 
 /// Work before the release: two jobs run, and both pieces are promised to

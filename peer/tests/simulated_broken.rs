@@ -2,11 +2,11 @@
 
 mod cases;
 
-use cases::{case_b, two_rows};
+use cases::{case_b, case_chain, two_rows};
 use peer::generate::{kept_core, shared_buffer, tiny};
 use peer::simulate::{
-    choices, edges, survey, unchecked, Claim, Clocks, Dial, Edge, Noticed, Report, Settings,
-    QUESTIONS,
+    choices, edges, only_one_clock, survey, unchecked, Claim, Clocks, Dial, Edge, Noticed, Report,
+    Settings, QUESTIONS,
 };
 use peer::{check, Plan, Rng};
 
@@ -32,11 +32,11 @@ fn broken_plans_are_noticed() {
         } in [by_a_tick, by_aim]
         {
             assert_eq!(broken, noticed + harmless);
-            assert!(noticed >= 12 && (question == 24 || harmless == 0));
+            assert!(noticed >= 12 && ([24, 31].contains(&question) || harmless == 0));
         }
         assert!(by_a_tick.noticed >= 36, "question {question}");
         let unseen = by_a_tick.noticed - by_a_tick.with_equal_clocks;
-        assert_eq!(unseen > 0, [18, 20, 21].contains(&question));
+        assert_eq!(unseen > 0, [18, 20, 21, 31].contains(&question));
     }
 }
 
@@ -46,13 +46,16 @@ fn found(plan: &Plan, most_ahead: u32) -> Report {
 }
 
 /// A plan that would bear one tick more of P bears clocks of P + 1, and one
-/// that would not shows a violation.
+/// that would not shows a violation. A chain with both ends on one node bears
+/// any clocks, and is left out.
 #[test]
 fn clocks_beyond_the_precision() {
     let [mut tight, mut loose] = [0, 0];
     for number in 0..200 {
         let plan = tiny(&mut Rng::for_case(5, number));
         let mut wider = plan.clone();
+        let node = |task: u32| plan.node_of_task(task);
+        wider.chains.retain(|row| node(row[0]) != node(row[1]));
         wider.precision += 1;
         let bears = check(&wider.encode()).is_accepted();
         let report = found(&plan, plan.precision + 1);
@@ -83,6 +86,41 @@ fn case_b_with_each_choice_of_clocks() {
     assert_eq!(broken(&early, Claim::Arrived), [[0, 1]]);
 }
 
+/// A chain over a stream and a buffer. Where both ends are on one node no
+/// clocks are between them, and P is not needed.
+#[test]
+fn a_chain_with_each_choice_of_clocks() {
+    let ahead = |by: [u32; 2]| Clocks::from_fn(&case_chain(), |node| by[node as usize]);
+    let all = [[0, 0], [0, 1], [1, 0], [1, 1]];
+    for (chain, number, broken) in [
+        ([0, 2, 17], 0, vec![]),
+        ([0, 2, 16], 31, vec![[1, 0]]),
+        ([0, 2, 15], 31, vec![[0, 0], [1, 0], [1, 1]]),
+        ([0, 2, 0], 0, vec![]),
+        ([1, 2, 9], 0, vec![]),
+        ([1, 2, 8], 31, vec![]),
+        ([1, 2, 7], 31, all.to_vec()),
+    ] {
+        let mut plan = case_chain();
+        plan.chains = vec![chain];
+        assert_eq!(check(&plan.encode()).number, number);
+        let found: Vec<[u32; 2]> = all
+            .into_iter()
+            .filter(|by| {
+                let report = unchecked(&plan, &[ahead(*by)]);
+                assert!(report.violations.keys().all(|claim| *claim == Claim::Chain));
+                report.has(Claim::Chain)
+            })
+            .collect();
+        assert_eq!(found, broken, "{chain:?}");
+        assert_eq!(
+            only_one_clock(&plan),
+            broken.is_empty(),
+            "what is harmless is so under all clocks"
+        );
+    }
+}
+
 /// How often every lane has moved when a claim first fails.
 fn fails_after(plan: &Plan, claim: Claim) -> usize {
     found(plan, plan.precision).violations[&claim].after
@@ -98,6 +136,9 @@ fn violations_show_at_once() {
     let mut late = case_b();
     late.streams[0][2] = 12;
     assert_eq!(fails_after(&late, Claim::Latency), 14);
+    let mut long = case_chain();
+    long.chains[0][2] = 16;
+    assert_eq!(fails_after(&long, Claim::Chain), 18);
     let mut short = case_b();
     short.pieces[0][3] = 3;
     assert_eq!(fails_after(&short, Claim::Budget), 20);
@@ -149,11 +190,11 @@ fn holds_reach_as_far_as_shown() {
 
 type Change = fn(&mut Plan);
 
-/// What 'Runs' does not claim: masks, nodes, routes, and that a read starts
-/// when its write has ended.
+/// What 'Runs' does not claim: masks, nodes, routes, that a read starts when
+/// its write has ended, and that messages join a chain's tasks.
 #[test]
 fn questions_that_no_run_shows() {
-    let unseen: [(u32, Plan, Change); 5] = [
+    let unseen: [(u32, Plan, Change); 8] = [
         (9, case_b(), |plan| plan.tasks[0][1] = 2),
         (14, case_b(), |plan| plan.cores[1][0] = 0),
         (17, case_b(), |plan| plan.links[0][1] = 2),
@@ -165,6 +206,9 @@ fn questions_that_no_run_shows() {
             plan.pieces[2][2] = 5;
             plan.buffers = vec![[7, 1, 2]];
         }),
+        (29, case_chain(), |plan| plan.chains[0] = [0, 0, 17]),
+        (29, case_chain(), |plan| plan.chains[0] = [0, 3, 17]),
+        (30, case_chain(), |plan| plan.chains[0] = [2, 0, 17]),
     ];
     for (question, mut plan, change) in unseen {
         change(&mut plan);

@@ -1,8 +1,9 @@
-"""Listings: every table by name with what follows from the rows, then jobs, messages and holds.
+"""Listings: every table by name with what follows from the rows, then jobs, messages, holds and chains.
 
 A '!' stands behind what cannot be so in an accepted plan; the checker has the last word.
 """
 from .aligned import aligned
+from .chains import path, stretches, trouble_of
 from .meaning import Meaning
 from .schema import TABLES
 from .writing import shown_values
@@ -13,7 +14,8 @@ def listing(plan):
     counts = ", ".join(f"{len(plan.rows[table.kind])} {table.kind}" for table in TABLES)
     parts = [f"cycle {plan.cycle}, precision {plan.precision}; rows: {counts}"]
     parts += [table_part(plan, meaning, table) for table in TABLES if plan.rows[table.kind]]
-    for title, header, lines in (jobs(plan, meaning), messages(plan, meaning), holds(plan, meaning)):
+    for describe in (jobs, messages, holds, chains):
+        title, header, lines = describe(plan, meaning)
         if lines:
             parts.append(part(title, header, lines))
     return "\n\n".join(parts) + "\n"
@@ -75,6 +77,17 @@ def _frame_end(plan, meaning, number):
     return plan.rows["frame"][number].start + meaning.frame_ticks(number)
 
 
+def path_words(plan, number):
+    """A chain's tasks and messages by name, in the order of its path, or what is wrong with it."""
+    wrong = trouble_of(plan, number)
+    if wrong:
+        return f"{wrong} !"
+    names = [plan.name("task", plan.rows["chain"][number].first)]
+    for leg in path(plan, number):
+        names += [plan.name(leg.kind, leg.row), plan.name("task", leg.target)]
+    return " → ".join(names)
+
+
 # What a listing adds to a table's columns: header and how it follows from plan, meaning and row number.
 EXTRAS = {
     "task": {
@@ -92,6 +105,9 @@ EXTRAS = {
     "frame": {
         "ticks": lambda plan, meaning, number: meaning.frame_ticks(number),
         "end": _frame_end,
+    },
+    "chain": {
+        "path": lambda plan, meaning, number: path_words(plan, number),
     },
 }
 
@@ -154,3 +170,15 @@ def holds(plan, meaning):
         lines.append([hold.number, hold.node, plan.name("buffer", hold.row), hold.job, *tasks, span(hold.start, hold.end), *gaps])
         ends[buffer] = max(ends.get(buffer, 0), hold.end)
     return "holds", header, lines
+
+
+def chains(plan, meaning):
+    """Each chain's jobs: from the first task's start to the last task's end, with P, and the slack to the limit."""
+    header = ["chain", "job", "start", "end", "ticks", "limit", "slack"]
+    lines = []
+    for number in range(len(plan.rows["chain"])):
+        for job in stretches(plan, meaning, number):
+            ends = [shown(job.first and job.first.first), shown(job.last and job.last.last)]
+            name = plan.name("chain", number)
+            lines.append([name, job.job, *ends, shown(job.ticks), job.limit, slack(job.limit, job.ticks)])
+    return "chains (ticks: the last task's end less the first task's start, P counted)", header, lines

@@ -173,14 +173,19 @@ class Meaning:
 
     def _message(self, stream, row, number):
         sender, receiver = self.job(row.sender, number), self.job(row.receiver, number)
-        steps, ready = [], sender.last if sender else None
-        for frame in self.frames.get((stream, number), ()):
-            steps.append(self._step(frame, ready))
-            ready = steps[-1].arrival
+        steps = self.steps(stream, number, sender.last if sender else None)
+        ready = steps[-1].arrival if steps else sender and sender.last
         latency = None
         if sender and receiver and sender.pieces and receiver.pieces:
             latency = receiver.last - sender.first + self.plan.precision
         return Message(stream, number, sender, receiver, tuple(steps), ready, latency, self.latency_limit(row))
+
+    def steps(self, stream, number, ready=None):
+        """The hops of a stream's job by number; the first may start at ready."""
+        steps = []
+        for frame in self.frames.get((stream, number), ()):
+            steps.append(self._step(frame, steps[-1].arrival if steps else ready))
+        return steps
 
     def _step(self, number, ready):
         frame = self.plan.rows["frame"][number]

@@ -25,6 +25,9 @@ QUESTIONS = {
     22: "have writer and reader equal periods and one node?",
     23: "does each reader job start no sooner than the writer job ends?",
     24: "do holds of one buffer never overlap between rows?",
+    29: "do the chain's tasks exist and differ?",
+    30: "does a path of streams and buffers lead from the chain's first task to its last?",
+    31: "is each job's last end of the last task less first start of the first, plus P, at most the limit?",
 }
 
 

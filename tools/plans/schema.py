@@ -32,6 +32,7 @@ TABLES = (
     Table("stream", 0, 64, RowOf("sender", "task"), RowOf("receiver", "task"), Number("latency"), Number("hops"), Number("payload")),
     Table("frame", 0, 512, RowOf("stream"), Number("job"), Number("hop"), RowOf("link"), Number("at", "start")),
     Table("buffer", 0, 64, Number("number"), RowOf("writer", "task"), RowOf("reader", "task")),
+    Table("chain", 0, 32, RowOf("first", "task"), RowOf("last", "task"), Number("limit")),
 )
 
 # The words that open the trailer, written as one row of the kind 'plan'.

@@ -82,7 +82,7 @@ class Commands(unittest.TestCase):
         self.assertIn("none.image: cannot be read", ran.stderr)
 
     def test_broken_layouts_are_told(self):
-        for name, number in (("q01-empty", 1), ("q02-last-word", 2), ("q03-gap", 3), ("q03-old-links", 3)):
+        for name, number in (("q01-empty", 1), ("q02-last-word", 2), ("q02-nine-tables", 2), ("q03-gap", 3), ("q03-old-links", 3)):
             ran = run("text", EXAMPLES / f"{name}.image")
             self.assertEqual((ran.returncode, ran.stdout), (1, ""))
             self.assertIn(f"{name}.image: no readable image (question {number})", ran.stderr)

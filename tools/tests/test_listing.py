@@ -57,6 +57,24 @@ class Listings(unittest.TestCase):
         self.assertIn(["0", "0", "scans", "0", "decode", "send", "2..11", "2", "-1", "!"], words("q23-read-too-soon"))
 
 
+    def test_chains(self):
+        lines = words("tunnel")
+        self.assertIn("0 scanned shoot send 1600 shoot → picture → decode → scans → send".split(), lines)
+        self.assertIn("scanned 0 60 1565 1530 1600 70".split(), lines)
+        self.assertIn("scanned 1 2060 3525 1490 1600 110".split(), lines)
+        self.assertIn("sorted 0 2 14 13 20 7".split(), words("chain"))
+
+    def test_chains_out_of_their_limit(self):
+        self.assertIn("scanned 0 60 1565 1530 1529 -1 !".split(), words("q31-one-tick-over"))
+        self.assertIn("sorted 0 2 20 22 20 -2 !".split(), words("q31-default-limit"))
+
+    def test_chains_without_a_path(self):
+        self.assertIn("1 sorted scan 3 0 no task 3 !".split(), words("q29-no-such-task"))
+        self.assertIn("sorted 0 2 - - 20 -".split(), words("q29-no-such-task"))
+        self.assertIn("1 sorted scan scan 0 first and last are one task !".split(), words("q29-one-task"))
+        self.assertIn("0 reach move scan 17 no path !".split(), words("q30-backwards"))
+
+
 def words_of_two_jobs():
     from plans.reading import read_text
 

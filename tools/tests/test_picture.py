@@ -27,6 +27,16 @@ def marked(elements):
     return sorted(shape.find(SVG + "title").text for shape in shapes if shape.find(SVG + "title") is not None)
 
 
+def chains(elements):
+    """The lines of chains, the legend's apart."""
+    return [element for element in elements if "c" in element.get("class", "").split() and len(element)]
+
+
+def parts(line):
+    """The (x, y) at which each part of a chain's line begins."""
+    return re.findall(r"M([0-9.]+) ([0-9.]+)", line.get("d"))
+
+
 def texts(elements):
     return [element.text for element in elements if element.tag == SVG + "text"]
 
@@ -83,6 +93,28 @@ class Pictures(unittest.TestCase):
         self.assertEqual([switch.get("x") for switch in switches], [blocks[windows[0]], blocks[windows[3]]])
 
 
+    def test_a_chain_is_a_line_through_its_messages(self):
+        """Parts for scan, the frame, sort, the hold and move, and one between each two of them."""
+        reach, sorted_ = chains(drawn(*example("chain")))
+        self.assertEqual(reach[0].text, "chain reach.0: 17 of 17 ticks")
+        self.assertEqual((len(parts(reach)), len(parts(sorted_))), (9, 5))
+        xs = [float(x) for x, _ in parts(reach)]
+        self.assertEqual(xs, sorted(xs))
+        pieces = {element[0].text.split(":")[0]: element for element in drawn(*example("chain")) if len(element)}
+        first, last = float(pieces["piece0"].get("x")), float(pieces["piece2"].get("x")) + float(pieces["piece2"].get("width"))
+        self.assertAlmostEqual(xs[0], first, delta=0.1)
+        self.assertAlmostEqual(float(re.findall(r"L([0-9.]+)", reach.get("d"))[-1]), last, delta=0.2)
+
+    def test_chains_have_a_label_and_a_place_in_the_legend(self):
+        labels = texts(drawn(*example("tunnel")))
+        self.assertIn("scanned.0: 1530/1600", labels)
+        self.assertIn("chain", labels)
+        self.assertNotIn("chain", texts(drawn(*example("case-b"))))
+
+    def test_a_chain_without_a_path_has_no_line(self):
+        self.assertEqual(len(chains(drawn(load(EXAMPLES / "q30-backwards.txt")))), 1)
+
+
 class Marks(unittest.TestCase):
     def expect(self, name, *beginnings):
         plan, answer = example(name)
@@ -102,6 +134,12 @@ class Marks(unittest.TestCase):
 
     def test_a_buffers_holds(self):
         self.expect("q24-second-scan", "totals (buffer 0, node 2), job 0")
+
+    def test_a_chains_ends_and_lines(self):
+        ends = ["piece0", "piece3", "piece5", "piece8"]
+        self.expect("q31-one-tick-over", "chain scanned.0", "chain scanned.1", *ends)
+        self.expect("q30-backwards", "piece0", "piece2")
+        self.expect("q29-no-such-task", "piece0")
 
     def test_rows_on_no_lane(self):
         self.expect("q05-no-such-vcpu", "window0 of 1")
@@ -137,6 +175,14 @@ class Views(unittest.TestCase):
         for block in blocks:
             self.assertGreaterEqual(float(block.get("x")), left)
             self.assertLessEqual(float(block.get("x")) + float(block.get("width")), left + width + 0.2)
+
+    def test_chains_are_cut_at_the_edges(self):
+        elements = drawn(load(EXAMPLES / "tunnel.txt"), view=View(700, 1300))
+        lanes = [element for element in elements if element.get("class") == "lane"]
+        left, width = float(lanes[0].get("x")), float(lanes[0].get("width"))
+        (line,) = chains(elements)
+        for x in re.findall(r"[ML]([0-9.]+)", line.get("d")):
+            self.assertTrue(left <= float(x) <= left + width + 0.1, x)
 
     def test_only_lanes_named(self):
         plan = load(EXAMPLES / "tunnel.txt")

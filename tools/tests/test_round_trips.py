@@ -25,11 +25,11 @@ def again(image):
 def readable(image):
     """Questions 1 to 3 by their words, apart from the tool's own reading."""
     word = lambda at: int.from_bytes(image[at:at + 4], "little")
-    if not 84 <= len(image) <= 64212 or word(len(image) - 4) != len(image) - 84:
+    if not 92 <= len(image) <= 64604 or word(len(image) - 4) != len(image) - 92:
         return False
-    at, trailer = 0, len(image) - 84
-    widths, bounds = (3, 1, 5, 3, 4, 4, 5, 5, 3), (32, 64, 256, 1024, 2048, 64, 64, 512, 64)
-    for table in range(9):
+    at, trailer = 0, len(image) - 92
+    widths, bounds = (3, 1, 5, 3, 4, 4, 5, 5, 3, 3), (32, 64, 256, 1024, 2048, 64, 64, 512, 64, 32)
+    for table in range(10):
         offset, rows = word(trailer + 8 + 8 * table), word(trailer + 12 + 8 * table)
         if offset != at or rows > bounds[table] or rows < (table == 0):
             return False
@@ -69,7 +69,7 @@ class RoundTrips(unittest.TestCase):
     def test_images_of_no_whole_words(self):
         """A byte too much in front of the trailer, the last word set right."""
         image = generated("small")
-        trailer = len(image) - 84
+        trailer = len(image) - 92
         longer = image[:trailer] + b"\0" + image[trailer:-4] + (trailer + 1).to_bytes(4, "little")
         self.assertFalse(readable(longer))
         self.assertRaisesRegex(BadValue, "question 3", decode, longer)
@@ -89,23 +89,23 @@ class RoundTrips(unittest.TestCase):
 
     def test_highest_words(self):
         image = encode(decode(generated("small")))
-        trailer = len(image) - 84
+        trailer = len(image) - 92
         highest = b"\xff" * trailer + image[trailer:]
         self.assertEqual(again(highest), highest)
 
     def test_any_plan_can_be_listed_and_drawn(self):
         """Listing and picture stand values that break questions, whatever row an answer names."""
-        for seed in range(0, MUTANTS, 5):
-            image = generated("mutant", seed)
-            if readable(image):
-                plan = decode(image)
-                self.assertIn("cycle", listing(plan))
-                self.assertIn("</svg>", picture(plan, f"mutant {seed}", Answer(6, seed // 5 % len(TABLES) + 1, seed // 50)))
+        mutants = {seed: generated("mutant", seed) for seed in range(0, MUTANTS, 5)}
+        plans = {seed: decode(image) for seed, image in mutants.items() if readable(image)}
+        self.assertGreater(len(plans), 10)
+        for seed, plan in plans.items():
+            self.assertIn("cycle", listing(plan))
+            self.assertIn("</svg>", picture(plan, f"mutant {seed}", Answer(6, seed // 5 % len(TABLES) + 1, seed // 50)))
 
     def test_rows_of_no_row_can_be_drawn(self):
         """Every word is one that names no row and lies past the cycle."""
         image = generated("rich")
-        plan = decode(b"\xff" * (len(image) - 84) + image[-84:])
+        plan = decode(b"\xff" * (len(image) - 92) + image[-92:])
         for table in range(1, len(TABLES) + 1):
             self.assertIn("</svg>", picture(plan, "no rows", Answer(5, table, 0)))
         self.assertIn("4294967295", listing(plan))

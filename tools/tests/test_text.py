@@ -24,14 +24,14 @@ def troubles(text):
 class Reading(unittest.TestCase):
     def test_case_a_is_the_papers_image(self):
         words = [0, 1, 2, 0, 0, 1, 10, 3, 8, 0, 0, 10, 0, 0, 2, 4, 10, 0]
-        for offset, rows in ((0, 1), (12, 1), (16, 1), (36, 1), (48, 1), (64, 0), (64, 0), (64, 0), (64, 0)):
+        for offset, rows in ((0, 1), (12, 1), (16, 1), (36, 1), (48, 1), (64, 0), (64, 0), (64, 0), (64, 0), (64, 0)):
             words += [offset, rows]
         expected = b"".join(word.to_bytes(4, "little") for word in [*words, 64])
         self.assertEqual(encode(read_text("p.txt", CASE_A)), expected)
-        self.assertEqual(len(expected), 148)
+        self.assertEqual(len(expected), 156)
 
     def test_sizes_are_the_papers(self):
-        self.assertEqual((TRAILER_BYTES, LONGEST), (84, 64212))
+        self.assertEqual((TRAILER_BYTES, LONGEST), (92, 64604))
 
     def test_rows_by_number_and_name_are_the_same(self):
         by_number = case_a_with(4, "task decode vcpu=0 cores=0 period=10 budget=3 deadline=8")
@@ -64,15 +64,26 @@ class Reading(unittest.TestCase):
             plan = read_text("p.txt", case_a_with(line, text))
             self.assertEqual(encode(read_text("q.txt", write_text(plan))), encode(plan), text)
 
+    def test_chains(self):
+        """A name for a task, a number that need not exist, and the row's place behind all other tables."""
+        image = encode(read_text("p.txt", CASE_A + "chain far first=decode last=9 limit=0\nchain first=1 last=0 limit=7\n"))
+        words = [int.from_bytes(image[at:at + 4], "little") for at in range(64, len(image), 4)]
+        self.assertEqual((words[:6], words[-3:], len(image)), ([0, 9, 0, 1, 0, 7], [64, 2, 88], 180))
+
+    def test_chains_are_written_back(self):
+        written = write_text(read_text("p.txt", CASE_A + "chain far first=decode last=9 limit=0\n"))
+        self.assertIn("chain  far  first=decode  last=9  limit=0", written)
+
     def test_raw_changes(self):
         image = encode(read_text("p.txt", CASE_A))
         for raw, expected in (
             ("last-word=63", image[:-4] + b"\x3f\0\0\0"),
-            ("length=150", image + b"\0\0"),
+            ("length=158", image + b"\0\0"),
             ("length=3", image[:3]),
             ("core.rows=2", image[:76] + b"\2" + image[77:]),
             ("vcpu.offset=16", image[:80] + b"\x10" + image[81:]),
             ("core.words=3", image),
+            ("chain.rows=1", image[:148] + b"\1" + image[149:]),
         ):
             self.assertEqual(encode(read_text("p.txt", CASE_A + f"raw {raw}\n")), expected, raw)
 
@@ -81,7 +92,7 @@ class Reading(unittest.TestCase):
         image = encode(read_text("p.txt", CASE_A + "raw core.words=2\n"))
         words = [int.from_bytes(image[at:at + 4], "little") for at in range(0, len(image), 4)]
         self.assertEqual(words[:4], [0, 1, 0, 0])
-        self.assertEqual((words[-21:-15], words[-1], len(image)), ([10, 0, 0, 1, 8, 1], 60, 144))
+        self.assertEqual((words[-23:-17], words[-1], len(image)), ([10, 0, 0, 1, 8, 1], 60, 152))
 
     def test_comments_tabs_and_line_ends(self):
         text = CASE_A.replace(" ", "\t").replace("\n", "  # why\r\n") + "# end"
@@ -165,6 +176,12 @@ class BadText(unittest.TestCase):
 
     def test_a_bad_row_still_has_its_name(self):
         self.expect(case_a_with(3, "vcpu guest cor=scanner"), "p.txt:3: vcpu has no key 'cor' (did you mean core?)")
+
+    def test_chains(self):
+        self.expect(CASE_A + "chain far first=decode last=9\n", "p.txt:7: chain far lacks limit")
+        self.expect(CASE_A + "chain first=decode last=send limit=0\n", "p.txt:7: chain: last: no task is named 'send'")
+        rows = "chain first=0 last=1 limit=0\n" * 33
+        self.expect(CASE_A + rows, "p.txt:39: 33 chain rows; a plan has at most 32, and this is the next")
 
     def test_change_and_drop(self):
         self.expect(CASE_A + "change task decod period=3\n", "p.txt:7: there is no task decod (did you mean decode?)")

@@ -15,8 +15,8 @@ pub fn lane_count(image: &[u8]) -> u32
     rows_of(image, Table::Cores) + rows_of(image, Table::Links)
 }
 
-// Builds a lane's table: asks 1 to 24, then 25 and 26, and writes H, n and the entries from word 0 on. Later words, and all words after
-// a refusal, stay as they are.
+// Builds a lane's table: asks 1 to 24 and 29 to 31, then 25 and 26, and writes H, n and the entries from word 0 on. Later words, and all words
+// after a refusal, stay as they are.
 pub fn build(image: &[u8], lane: u32, words: &mut [u32]) -> Answer
     ensures { λ r. ⌜ Filled (now (image .entry)) lane (now (words .entry)) r (now (words .exit)) ⌝ }
 {

@@ -5,7 +5,7 @@ use libc::STDOUT_FILENO;
 use plan::LaneState;
 
 // Case A, as words.
-const CASE_A: [u32; 37] = [
+const CASE_A: [u32; 39] = [
     0,
     1,
     2,
@@ -43,10 +43,12 @@ const CASE_A: [u32; 37] = [
     64,
     0,
     64,
+    0,
+    64,
 ];
 
 // Case B, as words.
-const CASE_B: [u32; 67] = [
+const CASE_B: [u32; 69] = [
     0,
     1,
     2,
@@ -114,6 +116,8 @@ const CASE_B: [u32; 67] = [
     184,
     0,
     184,
+    0,
+    184,
 ];
 
 // Changes to A, a row of four each: a word's place and its new value, twice; place 99 changes nothing. In the paper's order.
@@ -174,7 +178,7 @@ const A_CHANGES: [u32; 60] = [
     0,
     99,
     0, // H = 0: 4 0 0
-    36,
+    38,
     63,
     99,
     0, // last word 63: 2 0 0
@@ -247,7 +251,7 @@ fn change_a(image: &mut [u8], k: usize)
     let second = A_CHANGES[at + 2];
     let other = A_CHANGES[at + 3];
     let mut i: usize = 0;
-    while i < 37 {
+    while i < 39 {
         put(
             image,
             i,
@@ -267,7 +271,7 @@ fn change_b(image: &mut [u8], k: usize)
     let second = B_CHANGES[at + 2];
     let other = B_CHANGES[at + 3];
     let mut i: usize = 0;
-    while i < 67 {
+    while i < 69 {
         put(
             image,
             i,
@@ -280,7 +284,7 @@ fn change_b(image: &mut [u8], k: usize)
 fn run_a(k: usize)
     requires { ⌜ k < 15 ⌝ }
 {
-    let mut image = [0u8; 148];
+    let mut image = [0u8; 156];
     change_a(&mut image, k);
     print_answer(&image);
 }
@@ -288,7 +292,7 @@ fn run_a(k: usize)
 fn run_b(k: usize)
     requires { ⌜ k < 3 ⌝ }
 {
-    let mut image = [0u8; 268];
+    let mut image = [0u8; 276];
     change_b(&mut image, k);
     print_answer(&image);
 }

@@ -21,7 +21,7 @@ use Rattle.jobs.proofs.Places.{place-below, place-one}
 use Rattle.jobs.proofs.Held.{job-of, piece-fits, all-placed}
 
 -- a smallest is at most its top, a sum's place is one of the words'
-smallest-top : (top : ℕ) (f : ℕ → ℕ) (n : ℕ) → smallest top n f ≤ top
+pub smallest-top : (top : ℕ) (f : ℕ → ℕ) (n : ℕ) → smallest top n f ≤ top
 unfolding smallest
 smallest-top top f zero = omega arith
 smallest-top top f (suc n) = let h = smallest-top top f n in omega arith

@@ -12,7 +12,7 @@ use Rattle.plan.specs.declared.Answer.{Answer}
 use Rattle.plan.specs.declared.Table.{Table}
 use Rattle.plan.specs.Image.{tables, cycleTicks}
 use Rattle.plan.specs.Search.{firstNo}
-use Rattle.plan.specs.Questions.{Question, names, inRange, whole, each, eachTable, imageQuestions, pieceQuestions, streamQuestions, bufferQuestions, planQuestions, questions, answerTo, answerOf, accepted}
+use Rattle.plan.specs.Questions.{Question, names, inRange, whole, each, eachTable, imageQuestions, pieceQuestions, streamQuestions, bufferQuestions, chainQuestions, planQuestions, questions, answerTo, answerOf, accepted}
 use Rattle.plan.specs.Dispatch.{lanes, entries, entryCount, tableOf, buildAnswer, built}
 use Rattle.plan.proofs.Asking.{Real, then-asked, stopped-first, passed-of, passed-all}
 use Rattle.plan.proofs.Tables.{entries-length}
@@ -36,7 +36,7 @@ module _ (s : List ℕ) where
   real-image = omega arith
 
   real-plan : Real (planQuestions s)
-  unfolding planQuestions pieceQuestions streamQuestions bufferQuestions each
+  unfolding planQuestions pieceQuestions streamQuestions bufferQuestions chainQuestions each
   real-plan = omega arith
 
   pub real : Real (questions s)

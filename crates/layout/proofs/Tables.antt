@@ -1,4 +1,4 @@
--- The nine tables one after another: what the loops over them need.
+-- The ten tables one after another: what the loops over them need.
 use Prim.Native.Nat.{ℕ, zero, suc, _+_, _≤_, _<_}
 use mathlib.Core.Path.{_≡_, refl, sym, ap, _∙_}
 use mathlib.Core.Bool.{Bool, true, false, _&&_}
@@ -15,15 +15,15 @@ use Rattle.plan.specs.Questions.{laid, Question, questionAt, each, eachTable}
 use Rattle.plan.proofs.Asking.{between}
 use Rattle.layout.specs.Tests.{tableFits, tableAt}
 
-nine : length tables ≡ 9
+many : length tables ≡ 10
 unfolding tables
-nine = refl
+many = refl
 
-tables-from : (i : ℕ) → i < 9 → drop i tables ≡ tableAt i ∷ drop (i + 1) tables
+tables-from : (i : ℕ) → i < 10 → drop i tables ≡ tableAt i ∷ drop (i + 1) tables
 unfolding tableAt
-tables-from i l = drop-cons tables i Cores (rw nine l) ∙ (rw add-one refl)
+tables-from i l = drop-cons tables i Cores (rw many l) ∙ (rw add-one refl)
 
-module _ (s : List ℕ) (from i : ℕ) (l : i < 9) where
+module _ (s : List ℕ) (from i : ℕ) (l : i < 10) where
   -- 3, at table i
   pub laid-on : tableFits s (tableAt i) from ≡ true → laid s from (drop i tables) ≡ laid s (tableEnd s (tableAt i)) (drop (i + 1) tables)
   unfolding laid tableFits
@@ -33,21 +33,21 @@ module _ (s : List ℕ) (from i : ℕ) (l : i < 9) where
   unfolding laid tableFits
   laid-no h = rw (tables-from i l, laid, h) refl
 
-pub laid-end : (s : List ℕ) (from i : ℕ) → i ≡ 9 → laid s from (drop i tables) ≡ eqb from (trailerAt s)
+pub laid-end : (s : List ℕ) (from i : ℕ) → i ≡ 10 → laid s from (drop i tables) ≡ eqb from (trailerAt s)
 unfolding laid tables
 laid-end s from i e = rw e refl
 
 -- 5 and 6: question i of the list is the one over table i
-pub asked-table : (s : List ℕ) (n : ℕ) (ok : Table → ℕ → Bool) (i : ℕ) → i < 9
+pub asked-table : (s : List ℕ) (n : ℕ) (ok : Table → ℕ → Bool) (i : ℕ) → i < 10
     → questionAt (eachTable s n tables ok) i ≡ each s n (tableAt i) (ok (tableAt i))
 unfolding questionAt eachTable tables tableAt
 asked-table s n ok i l =
-    between (λ j. questionAt (eachTable s n tables ok) j ≡ each s n (tableAt j) (ok (tableAt j))) 0 9
-    (refl, (refl, (refl, (refl, (refl, (refl, (refl, (refl, (refl, tt)))))))))
+    between (λ j. questionAt (eachTable s n tables ok) j ≡ each s n (tableAt j) (ok (tableAt j))) 0 10
+    (refl, (refl, (refl, (refl, (refl, (refl, (refl, (refl, (refl, (refl, tt))))))))))
     i
     (omega arith)
     (omega arith)
 
-pub nine-asked : (s : List ℕ) (n : ℕ) (ok : Table → ℕ → Bool) → length (eachTable s n tables ok) ≡ 9
+pub all-asked : (s : List ℕ) (n : ℕ) (ok : Table → ℕ → Bool) → length (eachTable s n tables ok) ≡ 10
 unfolding eachTable tables
-nine-asked s n ok = refl
+all-asked s n ok = refl

@@ -11,6 +11,7 @@ ghost use Rattle.plan.specs.Held.{InImage};
 ghost use Rattle.layout.specs.Tests.{lengthFits, tableFits, laidOut, ticksFit, tableAt, rowTest};
 use plan::Answer;
 use plan::Buffer;
+use plan::Chain;
 use plan::Core;
 use plan::Found;
 use plan::Frame;
@@ -48,7 +49,8 @@ const MOST_WORDS: u32 = Core::WORDS * Core::MAX
     + Link::WORDS * Link::MAX
     + Stream::WORDS * Stream::MAX
     + Frame::WORDS * Frame::MAX
-    + Buffer::WORDS * Buffer::MAX;
+    + Buffer::WORDS * Buffer::MAX
+    + Chain::WORDS * Chain::MAX;
 
 // The largest image.
 pub const MOST_BYTES: usize = TRAILER_BYTES + 4 * MOST_WORDS as usize;
@@ -70,7 +72,7 @@ fn points_back(image: &[u8]) -> bool
 
 // The tables, by their place.
 fn table_at(i: u32) -> Table
-    requires { ⌜ i < 9 ⌝ }
+    requires { ⌜ i < 10 ⌝ }
     ensures { λ r. ⌜ r ≡ tableAt i ⌝ }
 {
     match i {
@@ -82,7 +84,8 @@ fn table_at(i: u32) -> Table
         5 => Table::Links,
         6 => Table::Streams,
         7 => Table::Frames,
-        _ => Table::Buffers,
+        8 => Table::Buffers,
+        _ => Table::Chains,
     }
 }
 
@@ -103,7 +106,7 @@ fn tables_fit(image: &[u8]) -> bool
 {
     let mut from: u64 = 0;
     let mut i: u32 = 0;
-    while i < 9 {
+    while i < 10 {
         let table = table_at(i);
         if !table_fits(image, table, from) {
             return false;
@@ -205,6 +208,7 @@ fn row_names(image: &[u8], table: Table, row: u32) -> bool
         Table::Streams => stream_names(image, row),
         Table::Frames => frame_names(image, row),
         Table::Buffers => buffer_names(image, row),
+        Table::Chains => true,
     }
 }
 
@@ -288,6 +292,7 @@ fn row_range(image: &[u8], table: Table, row: u32) -> bool
         Table::Streams => stream_range(image, row),
         Table::Frames => true,
         Table::Buffers => buffer_range(image, row),
+        Table::Chains => true,
     }
 }
 
@@ -325,7 +330,7 @@ pub fn ask_tables(image: &[u8], number: u32) -> Answer
     ensures { λ r. ⌜ r ≡ answerTo (eachTable (now (image .entry)) number tables (rowTest (now (image .entry)) number)) ⌝ }
 {
     let mut i: u32 = 0;
-    while i < 9 {
+    while i < 10 {
         let table = table_at(i);
         match first_no(image, number, table) {
             Found::At(row) => {

@@ -5,15 +5,38 @@ use mathlib.Core.List.{List, _∷_, _++_, []}
 use native.Mathlib.Omega.{arith}
 use lib.ListN.{length}
 use Rattle.plan.specs.declared.Table.{Table}
-use Rattle.plan.specs.declared.Table.the-variants.{Cores, Vcpus, Tasks, Windows, Pieces, Links, Streams, Frames, Buffers}
+use Rattle.plan.specs.declared.Table.the-variants.{Cores, Vcpus, Tasks, Windows, Pieces, Links, Streams, Frames, Buffers, Chains}
 use Rattle.plan.specs.Image.{tables, shape, rows, offset, tableEnd, trailerAt, trailerBytes, cycleTicks, precision}
 use Rattle.plan.specs.Questions.{answerOf, accepted}
-use Rattle.plan.specs.Reading.{AllHold, Holds, meanings, imageMeanings, planMeanings, whole, eachTable, Laid, Names, InRange}
+use Rattle.plan.specs.Reading.{Meaning, AllHold, Holds, meanings, imageMeanings, planMeanings, whole, each, eachTable, Laid, Names, InRange}
 use Rattle.plan.specs.Held.{InImage, Sound}
 use Rattle.plan.proofs.Meanings.{accepted-means}
-use Rattle.plan.proofs.Facts.{left, right, tableRows}
+
+pub left : (ps qs : List Meaning) → AllHold (ps ++ qs) → AllHold ps
+left [] qs h = tt
+left (p ∷ ps) qs h = (h .0, left ps qs (h .1))
+
+pub right : (ps qs : List Meaning) → AllHold (ps ++ qs) → AllHold qs
+right [] qs h = h
+right (p ∷ ps) qs h = right ps qs (h .1)
 
 module _ (s : List ℕ) where
+  abbrev pub Rows : Table → (ℕ → Type 0) → Type 0
+  Rows t Y = (r : ℕ) → r < rows s t → Y r
+
+  pub tableRows : (q : ℕ) (Y : Table → ℕ → Type 0) → AllHold (eachTable s q tables Y) → (t : Table) → Rows t (Y t)
+  unfolding eachTable tables each
+  tableRows q Y h Cores = h .0
+  tableRows q Y h Vcpus = h .1 .0
+  tableRows q Y h Tasks = h .1 .1 .0
+  tableRows q Y h Windows = h .1 .1 .1 .0
+  tableRows q Y h Pieces = h .1 .1 .1 .1 .0
+  tableRows q Y h Links = h .1 .1 .1 .1 .1 .0
+  tableRows q Y h Streams = h .1 .1 .1 .1 .1 .1 .0
+  tableRows q Y h Frames = h .1 .1 .1 .1 .1 .1 .1 .0
+  tableRows q Y h Buffers = h .1 .1 .1 .1 .1 .1 .1 .1 .0
+  tableRows q Y h Chains = h .1 .1 .1 .1 .1 .1 .1 .1 .1 .0
+
   -- each table's rows are in bounds, and it ends where the trailer begins, or before
   abbrev Fit : Table → Type 0
   Fit t = (rows s t ≤ shape t .most) × (tableEnd s t ≤ trailerAt s)
@@ -43,6 +66,7 @@ module _ (s : List ℕ) where
   table-fit h Streams = h .1 .1 .1 .1 .1 .1 .0
   table-fit h Frames = h .1 .1 .1 .1 .1 .1 .1 .0
   table-fit h Buffers = h .1 .1 .1 .1 .1 .1 .1 .1 .0
+  table-fit h Chains = h .1 .1 .1 .1 .1 .1 .1 .1 .1 .0
 
   trailer-low : trailerAt s ≤ length s
   unfolding trailerAt
@@ -65,11 +89,12 @@ module _ (s : List ℕ) where
       let c = h .1 .1 .1 .0 0 (omega arith) in
       record {
         inside = in-image h;
+        core = h .1 .1 .0 0 (omega arith) .0;
         cycle = c .0;
         cycle-most = c .1;
         clocks = c .2;
-        names = tableRows s 5 (Names s) n;
-        ranges = tableRows s 6 (InRange s) r;
+        names = tableRows 5 (Names s) n;
+        ranges = tableRows 6 (InRange s) r;
       }
 
   pub accepted-sound : answerOf s ≡ accepted → Sound s

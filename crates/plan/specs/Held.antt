@@ -3,6 +3,7 @@ use Prim.Native.Nat.{ℕ, _≤_, _<_}
 use mathlib.Core.List.{List}
 use lib.ListN.{length}
 use Rattle.plan.specs.declared.Table.{Table}
+use Rattle.plan.specs.declared.Table.the-variants.{Cores}
 use Rattle.plan.specs.Image.{shape, trailerBytes, tableEnd, rows, cycleTicks, precision}
 use Rattle.plan.specs.Reading.{Names, InRange}
 use Rattle.plan.specs.Search.{firstNo}
@@ -17,9 +18,10 @@ pub record InImage (s : List ℕ) : Type 0 where
   pub counts : (t : Table) → rows s t ≤ shape t .most
   pub ends : (t : Table) → tableEnd s t ≤ length s
 
--- 1 to 6: besides, H and P are in range, row numbers name rows, and values are in range
+-- 1 to 6: besides, there is a core, H and P are in range, row numbers name rows, and values are in range
 pub record Sound (s : List ℕ) : Type 0 where
   pub inside : InImage s
+  pub core : 1 ≤ rows s Cores
   pub cycle : 1 ≤ cycleTicks s
   pub cycle-most : cycleTicks s ≤ 1000000
   pub clocks : precision s ≤ 10000

@@ -8,7 +8,7 @@ use Rattle.plan.specs.declared.Answer.{Answer}
 use Rattle.plan.specs.declared.Table.{Table}
 use Rattle.plan.specs.Image.{tables}
 use Rattle.plan.specs.Questions as Q
-use Rattle.plan.specs.Questions.{Question, answerTo, answerOf, questions, imageQuestions, eachTable, pieceQuestions, streamQuestions, bufferQuestions, planQuestions, names, inRange}
+use Rattle.plan.specs.Questions.{Question, answerTo, answerOf, questions, imageQuestions, eachTable, pieceQuestions, streamQuestions, bufferQuestions, chainQuestions, planQuestions, names, inRange}
 use Rattle.plan.specs.Reading as R
 use Rattle.plan.specs.Held.{InImage, Sound, Passed}
 use Rattle.plan.proofs.Answers.{accepted-holds}
@@ -16,6 +16,7 @@ use Rattle.plan.proofs.Asking.{Real, then-asked, stopped-first, passed-of, pass
 use Rattle.plan.proofs.Meanings.{image-agree, names-agree, ranges-agree}
 use Rattle.plan.proofs.Sounds.{in-image, sound}
 use Rattle.layout.specs.Tests.{rowTest}
+use Rattle.chains.specs.Walks.{Asked}
 
 module _ (s : List ℕ) where
   abbrev pub nameQuestions : List Question
@@ -30,7 +31,7 @@ module _ (s : List ℕ) where
 
   real-tables : (n : ℕ) → 1 ≤ n → (ok : Table → ℕ → Bool) → Real (eachTable s n tables ok)
   unfolding tables eachTable Q.each
-  real-tables n h ok = (h, (h, (h, (h, (h, (h, (h, (h, (h, tt)))))))))
+  real-tables n h ok = (h, (h, (h, (h, (h, (h, (h, (h, (h, (h, tt))))))))))
 
   real-pieces : Real (pieceQuestions s)
   unfolding pieceQuestions Q.each
@@ -39,6 +40,10 @@ module _ (s : List ℕ) where
   real-streams : Real (streamQuestions s)
   unfolding streamQuestions Q.each
   real-streams = (lit≤ tt, (lit≤ tt, (lit≤ tt, (lit≤ tt, (lit≤ tt, (lit≤ tt, (lit≤ tt, (lit≤ tt, tt))))))))
+
+  real-buffers : Real (bufferQuestions s)
+  unfolding bufferQuestions Q.each
+  real-buffers = (lit≤ tt, (lit≤ tt, (lit≤ tt, tt)))
 
   -- ---- what is shown for later questions
 
@@ -74,9 +79,15 @@ module _ (s : List ℕ) where
       (append-assoc (imageQuestions s ++ nameQuestions) rangeQuestions (planQuestions s)
       ∙ append-assoc (imageQuestions s) nameQuestions (rangeQuestions ++ planQuestions s))
 
-  plan-chain : answerTo (planQuestions s) ≡ answerTo (pieceQuestions s ++ (streamQuestions s ++ bufferQuestions s))
+  abbrev pub messageQuestions : List Question
+  messageQuestions = streamQuestions s ++ (bufferQuestions s ++ chainQuestions s)
+
+  plan-chain : answerTo (planQuestions s) ≡ answerTo (pieceQuestions s ++ messageQuestions)
   unfolding planQuestions
-  plan-chain = ap answerTo (append-assoc (pieceQuestions s) (streamQuestions s) (bufferQuestions s))
+  plan-chain =
+      ap answerTo
+      (append-assoc (pieceQuestions s ++ streamQuestions s) (bufferQuestions s) (chainQuestions s)
+      ∙ append-assoc (pieceQuestions s) (streamQuestions s) (bufferQuestions s ++ chainQuestions s))
 
   module _ (i : answerTo (imageQuestions s) .number ≡ 0) where
     pub stop-names : (answerTo nameQuestions .number ≡ 0 → ⊥) → answerOf s ≡ answerTo nameQuestions
@@ -98,11 +109,20 @@ module _ (s : List ℕ) where
   pub stop-pieces : (answerTo (pieceQuestions s) .number ≡ 0 → ⊥) → answerTo (planQuestions s) ≡ answerTo (pieceQuestions s)
   stop-pieces h = plan-chain ∙ stopped-first (pieceQuestions s) _ h
 
-  pub to-messages : answerTo (pieceQuestions s) .number ≡ 0 → answerTo (planQuestions s) ≡ answerTo (streamQuestions s ++ bufferQuestions s)
+  pub to-messages : answerTo (pieceQuestions s) .number ≡ 0 → answerTo (planQuestions s) ≡ answerTo messageQuestions
   to-messages e = plan-chain ∙ then-asked (pieceQuestions s) _ real-pieces e
 
-  pub stop-streams : (answerTo (streamQuestions s) .number ≡ 0 → ⊥) → answerTo (streamQuestions s ++ bufferQuestions s) ≡ answerTo (streamQuestions s)
-  stop-streams h = stopped-first (streamQuestions s) (bufferQuestions s) h
+  pub stop-streams : (answerTo (streamQuestions s) .number ≡ 0 → ⊥) → answerTo messageQuestions ≡ answerTo (streamQuestions s)
+  stop-streams h = stopped-first (streamQuestions s) (bufferQuestions s ++ chainQuestions s) h
 
-  pub to-buffers : answerTo (streamQuestions s) .number ≡ 0 → answerTo (streamQuestions s ++ bufferQuestions s) ≡ answerTo (bufferQuestions s)
-  to-buffers e = then-asked (streamQuestions s) (bufferQuestions s) real-streams e
+  module _ (e : answerTo (streamQuestions s) .number ≡ 0) where
+    pub stop-buffers : (answerTo (bufferQuestions s) .number ≡ 0 → ⊥) → answerTo messageQuestions ≡ answerTo (bufferQuestions s)
+    stop-buffers h = then-asked (streamQuestions s) (bufferQuestions s ++ chainQuestions s) real-streams e ∙ stopped-first (bufferQuestions s) (chainQuestions s) h
+
+    pub to-chains : answerTo (bufferQuestions s) .number ≡ 0 → answerTo messageQuestions ≡ answerTo (chainQuestions s)
+    to-chains b = then-asked (streamQuestions s) (bufferQuestions s ++ chainQuestions s) real-streams e ∙ then-asked (bufferQuestions s) (chainQuestions s) real-buffers b
+
+    -- what 1 to 24 have shown, for the chains
+    pub before-chains : Sound s → Passed (pieceQuestions s) 7 → answerTo (bufferQuestions s) .number ≡ 0 → Asked s
+    unfolding streamQuestions bufferQuestions
+    before-chains h p b = record { sound = h; pieces = p; streams = passed-of (streamQuestions s) real-streams e; buffers = passed-of (bufferQuestions s) real-buffers b }

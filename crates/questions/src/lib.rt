@@ -2,14 +2,14 @@
 ghost use mathlib.Core.Path.{_≡_};
 ghost use Prim.Native.Nat.{_+_};
 ghost use mathlib.Core.List.{_++_};
-ghost use Rattle.plan.specs.Questions.{planQuestions, pieceQuestions, streamQuestions, bufferQuestions, answerTo, answerOf};
+ghost use Rattle.plan.specs.Questions.{planQuestions, pieceQuestions, streamQuestions, bufferQuestions, chainQuestions, answerTo, answerOf};
 ghost use Rattle.plan.specs.Held.{Sound, Passed};
 use plan::Answer;
 
-// Questions 14 to 24: with the times of all jobs at hand.
+// Questions 14 to 24, and 29 to 31: with the times of all jobs at hand.
 fn ask_messages(image: &[u8]) -> Answer
     requires { ⌜ Sound (now image) × Passed (pieceQuestions (now image)) 7 ⌝ }
-    ensures { λ r. ⌜ r ≡ answerTo (streamQuestions (now (image .entry)) ++ bufferQuestions (now (image .entry))) ⌝ }
+    ensures { λ r. ⌜ r ≡ answerTo (streamQuestions (now (image .entry)) ++ (bufferQuestions (now (image .entry)) ++ chainQuestions (now (image .entry)))) ⌝ }
 {
     let mut times = [0u32; 4352];
     jobs::gather(image, &mut times);
@@ -17,10 +17,14 @@ fn ask_messages(image: &[u8]) -> Answer
     if streams.number != 0 {
         return streams;
     }
-    buffers::ask(image, &times)
+    let buffers = buffers::ask(image, &times);
+    if buffers.number != 0 {
+        return buffers;
+    }
+    chains::ask(image, &times)
 }
 
-// Questions 7 to 24.
+// Questions 7 to 24, and 29 to 31.
 fn ask_plan(image: &[u8]) -> Answer
     requires { ⌜ Sound (now image) ⌝ }
     ensures { λ r. ⌜ r ≡ answerTo (planQuestions (now (image .entry))) ⌝ }

@@ -9,10 +9,10 @@ use Rattle.plan.specs.declared.Answer.{Answer}
 use Rattle.plan.specs.declared.Found.{Found}
 use Rattle.plan.specs.declared.Found.the-variants.{At, Nothing}
 use Rattle.plan.specs.declared.Table.{Table}
-use Rattle.plan.specs.declared.Table.the-variants.{Cores, Vcpus, Tasks, Windows, Pieces, Links, Streams, Frames, Buffers}
+use Rattle.plan.specs.declared.Table.the-variants.{Cores, Vcpus, Tasks, Windows, Pieces, Links, Streams, Frames, Buffers, Chains}
 use Rattle.plan.specs.Image.{shape, tables}
 use Rattle.plan.specs.Search.{firstNo}
-use Rattle.plan.specs.Questions.{Question, whole, each, eachTable, names, inRange, imageQuestions, pieceQuestions, streamQuestions, bufferQuestions, planQuestions, questions, answerTo, answerOf}
+use Rattle.plan.specs.Questions.{Question, whole, each, eachTable, names, inRange, imageQuestions, pieceQuestions, streamQuestions, bufferQuestions, chainQuestions, planQuestions, questions, answerTo, answerOf}
 use Rattle.plan.specs.Dispatch.{buildAnswer}
 use Rattle.plan.specs.Boundary.{answerNumber}
 use Rattle.writing.specs.AllTables.{allAnswer}
@@ -38,6 +38,7 @@ shape-narrow Links = omega arith
 shape-narrow Streams = omega arith
 shape-narrow Frames = omega arith
 shape-narrow Buffers = omega arith
+shape-narrow Chains = omega arith
 
 tables-narrow : (s : List ℕ) (q : ℕ) (ts : List Table) (ok : Table → ℕ → Bool) → q < 2 ^ 16 → Narrow (eachTable s q ts ok)
 unfolding eachTable each
@@ -61,12 +62,18 @@ module _ (s : List ℕ) where
   unfolding bufferQuestions each shape
   buffers-narrow = omega arith
 
+  chains-narrow : Narrow (chainQuestions s)
+  unfolding chainQuestions each shape
+  chains-narrow = omega arith
+
   plan-narrow : Narrow (planQuestions s)
   unfolding planQuestions
   plan-narrow =
-      narrow-append (pieceQuestions s ++ streamQuestions s) (bufferQuestions s)
+      narrow-append (pieceQuestions s ++ streamQuestions s ++ bufferQuestions s) (chainQuestions s)
+      (narrow-append (pieceQuestions s ++ streamQuestions s) (bufferQuestions s)
       (narrow-append (pieceQuestions s) (streamQuestions s) pieces-narrow streams-narrow)
-      buffers-narrow
+      buffers-narrow)
+      chains-narrow
 
   questions-narrow : Narrow (questions s)
   unfolding questions

@@ -3,11 +3,12 @@
 ghost use mathlib.Core.Path.{_≡_};
 ghost use Prim.Native.Nat.{_+_, _*_, _≤_, _<_};
 ghost use lib.ListN.{length};
-ghost use Rattle.plan.specs.declared.Table.the-variants.{Cores, Vcpus, Tasks, Windows, Pieces, Links, Streams, Frames, Buffers};
+ghost use Rattle.plan.specs.declared.Table.the-variants.{Cores, Vcpus, Tasks, Windows, Pieces, Links, Streams, Frames, Buffers, Chains};
 ghost use Rattle.plan.specs.Image.{wordAt, shape, trailerBytes, trailerAt, cycleTicks, precision, offset, rows, tableEnd, part, field};
-ghost use Rattle.plan.specs.Image.{core, vcpu, task, window, piece, link, stream, frame, buffer};
+ghost use Rattle.plan.specs.Image.{core, vcpu, task, window, piece, link, stream, frame, buffer, chain};
 ghost use Rattle.plan.specs.Held.{InImage};
 use plan::Buffer;
+use plan::Chain;
 use plan::Core;
 use plan::Frame;
 use plan::Link;
@@ -68,11 +69,16 @@ pub fn shape_of(table: Table) -> Shape
             width: Buffer::WORDS,
             most: Buffer::MAX,
         },
+        Table::Chains => Shape {
+            number: 10,
+            width: Chain::WORDS,
+            most: Chain::MAX,
+        },
     }
 }
 
-// Trailer and last word: H, P, an offset and a row count for each of the nine tables, and the word that points back.
-pub const TRAILER_BYTES: usize = 84;
+// Trailer and last word: H, P, an offset and a row count for each of the ten tables, and the word that points back.
+pub const TRAILER_BYTES: usize = 92;
 
 // The word of four bytes, lowest first, that begins at byte i.
 pub fn word(bytes: &[u8], i: usize) -> u32
@@ -267,5 +273,17 @@ pub fn buffer_at(image: &[u8], row: u32) -> Buffer
         number: field_of(image, Table::Buffers, row, 0),
         writer: field_of(image, Table::Buffers, row, 1),
         reader: field_of(image, Table::Buffers, row, 2),
+    }
+}
+
+pub fn chain_at(image: &[u8], row: u32) -> Chain
+    requires { ⌜ InImage (now image) ⌝ }
+    requires { ⌜ row < rows (now image) Chains ⌝ }
+    ensures { λ r. ⌜ r ≡ chain (now (image .entry)) row ⌝ }
+{
+    Chain {
+        first: field_of(image, Table::Chains, row, 0),
+        last: field_of(image, Table::Chains, row, 1),
+        limit: field_of(image, Table::Chains, row, 2),
     }
 }

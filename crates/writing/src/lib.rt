@@ -91,8 +91,8 @@ fn fill(image: &[u8], lane: u32, bytes: &mut [u8]) -> Answer
     plan::accepted()
 }
 
-// Builds a lane's table: asks 1 to 24, then 25 and 26, and writes H, n and the entries from byte 0 on. Later bytes, and all bytes after
-// a refusal, stay as they are.
+// Builds a lane's table: asks 1 to 24 and 29 to 31, then 25 and 26, and writes H, n and the entries from byte 0 on. Later bytes, and all bytes
+// after a refusal, stay as they are.
 pub fn build(image: &[u8], lane: u32, bytes: &mut [u8]) -> Answer
     ensures { λ r. ⌜ Built (now (image .entry)) lane (now (bytes .entry)) r (now (bytes .exit)) ⌝ }
 {
@@ -140,8 +140,8 @@ fn write_all(image: &[u8], bytes: &mut [u8])
     }
 }
 
-// Builds the tables of all lanes, lanes rising: asks 1 to 24 once, then 26 of all words together. Later bytes, and all bytes after a
-// refusal, stay as they are.
+// Builds the tables of all lanes, lanes rising: asks 1 to 24 and 29 to 31 once, then 26 of all words together. Later bytes, and all bytes
+// after a refusal, stay as they are.
 pub fn build_all(image: &[u8], bytes: &mut [u8]) -> Answer
     ensures { λ r. ⌜ BuiltAll (now (image .entry)) (now (bytes .entry)) r (now (bytes .exit)) ⌝ }
 {

@@ -27,9 +27,12 @@ fn image(shape: &str, rng: &mut Rng) -> Vec<u8> {
         "large" => generate::large(rng),
         "busy" => generate::busy_core(rng),
         "kept" => generate::kept_core(rng),
+        "diamond" => generate::diamond(rng),
         "full" => generate::full(rng),
         "mutant" => return mutate::mutant(rng),
-        _ => panic!("shapes: bare units tiny shared small medium rich large busy kept full mutant"),
+        _ => panic!(
+            "shapes: bare units tiny shared small medium rich large busy kept diamond full mutant"
+        ),
     };
     plan.encode()
 }

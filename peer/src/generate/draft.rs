@@ -1,5 +1,6 @@
 //! A plan in the making.
 
+use super::chains::lay_chains;
 use super::timeline::Timeline;
 use super::windows::lay_windows;
 use crate::image::{Link, Plan, ROW_BOUNDS};
@@ -8,7 +9,8 @@ use crate::rng::Rng;
 /// The longest latency a stream can ask for.
 const LONGEST_LATENCY: u32 = 1_000_000;
 
-/// A plan in the making. Windows, masks and the row order are still open.
+/// A plan in the making. Windows, chains, masks and the row order are still
+/// open.
 #[derive(Clone, Debug)]
 pub struct Draft {
     pub plan: Plan,
@@ -400,10 +402,21 @@ impl Draft {
         })
     }
 
-    /// The plan with windows (so many, if a number is wanted), masks and its
-    /// rows shuffled; none where the windows do not come out.
-    pub fn finish(mut self, wanted_windows: Option<usize>, rng: &mut Rng) -> Option<Plan> {
-        self.plan.windows = lay_windows(&self.plan, wanted_windows, rng)?;
+    /// The plan with windows and chains, masks and its rows shuffled; none
+    /// where the windows do not come out.
+    pub fn finish(self, rng: &mut Rng) -> Option<Plan> {
+        self.finish_with(None, None, rng)
+    }
+
+    /// The same with so many windows and chains, if a number is wanted.
+    pub fn finish_with(
+        mut self,
+        windows: Option<usize>,
+        chains: Option<usize>,
+        rng: &mut Rng,
+    ) -> Option<Plan> {
+        self.plan.windows = lay_windows(&self.plan, windows, rng)?;
+        self.plan.chains = lay_chains(&self.plan, chains, rng)?;
         Some(shuffled(self.plan, rng))
     }
 }
@@ -461,10 +474,13 @@ fn shuffle_rows(plan: &mut Plan, rng: &mut Rng) {
     rename(&mut plan.frames, 3, &links);
     rename(&mut plan.buffers, 1, &tasks);
     rename(&mut plan.buffers, 2, &tasks);
+    rename(&mut plan.chains, 0, &tasks);
+    rename(&mut plan.chains, 1, &tasks);
     rng.shuffle(&mut plan.windows);
     rng.shuffle(&mut plan.pieces);
     rng.shuffle(&mut plan.frames);
     rng.shuffle(&mut plan.buffers);
+    rng.shuffle(&mut plan.chains);
 }
 
 /// Shuffles rows and gives the new number of each old row.

@@ -3,15 +3,17 @@
 //! Tasks come in transactions: tasks of one period, joined by messages where
 //! their nodes differ and by buffers where they do not. Each job is placed
 //! where its core is free once what it waits for has arrived; windows are
-//! laid around the pieces afterwards, and rows are shuffled last.
+//! laid around the pieces afterwards, chains along the messages, and rows are
+//! shuffled last.
 
+mod chains;
 mod draft;
 mod shapes;
 mod timeline;
 mod windows;
 
 pub use shapes::{
-    accepted, bare, busy_core, full, kept_core, large, medium, rich, shared_buffer, small,
+    accepted, bare, busy_core, diamond, full, kept_core, large, medium, rich, shared_buffer, small,
     small_rich, tiny, unit_periods,
 };
 pub use windows::cut_window;

@@ -73,7 +73,8 @@ const LARGE: Size = Size {
 pub fn accepted(rng: &mut Rng) -> Plan {
     match rng.below(100) {
         0..=3 => bare(rng),
-        4..=7 => unit_periods(rng),
+        4..=6 => unit_periods(rng),
+        7 => diamond(rng),
         8..=13 => kept_core(rng),
         14..=41 => small(rng),
         42..=69 => medium(rng),
@@ -137,6 +138,10 @@ fn with_all_tables(size: &Size, rng: &mut Rng) -> Plan {
 
 /// The draft with transactions, where a stream and a buffer are among them.
 fn filled(mut draft: Draft, size: &Size, rng: &mut Rng) -> Option<Plan> {
+    if rng.chance(40) {
+        let relay = relay(&draft, size, rng);
+        draft.add(&relay, rng);
+    }
     let turns = rng.below(size.transactions) + 2;
     for _ in 0..turns {
         let transaction = transaction(&draft, size, rng);
@@ -145,7 +150,7 @@ fn filled(mut draft: Draft, size: &Size, rng: &mut Rng) -> Option<Plan> {
     if draft.plan.streams.is_empty() || draft.plan.buffers.is_empty() {
         return None;
     }
-    draft.finish(None, rng)
+    draft.finish(rng)
 }
 
 /// Cores, perhaps links, and all other tables empty.
@@ -161,7 +166,7 @@ pub fn bare(rng: &mut Rng) -> Plan {
         let [delay, rate] = [rng.within(0..=1_000_000), rng.within(1..=10_000)];
         draft.add_link([from, to, delay, rate]);
     }
-    let plan = draft.finish(None, rng);
+    let plan = draft.finish(rng);
     plan.expect("no windows are needed")
 }
 
@@ -388,7 +393,7 @@ fn try_full(rng: &mut Rng) -> Option<Plan> {
             return None;
         }
     }
-    draft.finish(Some(1_024), rng)
+    draft.finish_with(Some(1_024), Some(32), rng)
 }
 
 fn full_transaction(draft: &Draft, unit: u32, rng: &mut Rng) -> Transaction {
@@ -441,7 +446,7 @@ fn random(size: &Size, rng: &mut Rng) -> Plan {
                 draft.add(&transaction, rng);
             }
         }
-        if let Some(plan) = draft.finish(None, rng) {
+        if let Some(plan) = draft.finish(rng) {
             return plan;
         }
     }
@@ -484,15 +489,20 @@ fn add_cores(draft: &mut Draft, size: &Size, least: u32, nodes: &[u32], rng: &mu
     }
 }
 
-/// The first link joins the first two nodes.
+/// The first link joins the first two nodes; others often lead back where the
+/// last one came from.
 fn add_links(draft: &mut Draft, size: &Size, least: u32, nodes: &mut [u32], rng: &mut Rng) {
     for link in 0..rng.within(least..=size.links) {
         if link > 0 {
             rng.shuffle(nodes);
         }
+        let ends = match draft.plan.links.last() {
+            Some(&[from, to, ..]) if rng.chance(30) => [to, from],
+            _ => [nodes[0], nodes[1]],
+        };
         let most_delay = (draft.plan.cycle / 40).max(2);
         let [delay, rate] = [few(most_delay, rng), any_rate(draft.plan.cycle / 24, rng)];
-        draft.add_link([nodes[0], nodes[1], delay, rate]);
+        draft.add_link([ends[0], ends[1], delay, rate]);
     }
 }
 
@@ -600,20 +610,228 @@ fn flows(draft: &Draft, size: &Size, period: u32, tasks: &[NewTask], rng: &mut R
     for to in 1..tasks.len() {
         while rng.chance(65) {
             let from = rng.below(to);
-            let ends = [tasks[from].vcpu, tasks[to].vcpu];
-            let [start, end] = ends.map(|vcpu| draft.node_of_vcpu(vcpu));
-            let near = start == end;
-            let leads = |hops: &u32| near || draft.walk(start, end, *hops, rng).is_some();
-            let lengths: Vec<u32> = size.hops.iter().copied().filter(leads).collect();
-            if let Some(hops) = rng.pick_any(&lengths) {
-                flows.push(Flow {
-                    from,
-                    to,
-                    hops,
-                    payload: any_payload(draft, period / (8 * hops), rng),
-                });
-            }
+            flows.extend(flow(draft, size, period, tasks, from, to, rng));
         }
     }
     flows
+}
+
+/// A flow between two tasks, where they are on one node or links lead from
+/// the one to the other.
+fn flow(
+    draft: &Draft,
+    size: &Size,
+    period: u32,
+    tasks: &[NewTask],
+    from: usize,
+    to: usize,
+    rng: &mut Rng,
+) -> Option<Flow> {
+    let ends = [tasks[from].vcpu, tasks[to].vcpu];
+    let [start, end] = ends.map(|vcpu| draft.node_of_vcpu(vcpu));
+    let near = start == end;
+    let leads = |hops: &u32| near || draft.walk(start, end, *hops, rng).is_some();
+    let lengths: Vec<u32> = size.hops.iter().copied().filter(leads).collect();
+    let hops = rng.pick_any(&lengths)?;
+    Some(Flow {
+        from,
+        to,
+        hops,
+        payload: any_payload(draft, period / (8 * hops), rng),
+    })
+}
+
+/// Tasks in a row, each with a message to the next where that can be, and
+/// with some to others that come later.
+fn relay(draft: &Draft, size: &Size, rng: &mut Rng) -> Transaction {
+    let most_jobs = rng.within(1..=size.jobs.min(3));
+    let period = any_period(draft.plan.cycle, most_jobs, rng);
+    let count = rng.within(3..=9);
+    let habit = rng.pick(&[None, None, Some(false), Some(true)]);
+    let vcpus = draft.plan.vcpus.len() as u32;
+    let mut vcpu = rng.within(0..=vcpus - 1);
+    let task = |_| {
+        vcpu = next_vcpu(draft, vcpu, habit, rng);
+        NewTask {
+            vcpu,
+            budget: rng.within(1..=(period / (12 * count)).max(1)),
+            least_pieces: 1,
+            most_pieces: rng.pick(&[1, 1, 2]),
+            haste: Haste::Early,
+        }
+    };
+    let mut tasks: Vec<NewTask> = (0..count).map(task).collect();
+    if rng.chance(30) {
+        // A first start and a last end as far apart as they may be.
+        tasks[count as usize - 1].haste = Haste::Late;
+    }
+    let ticks = period / count;
+    let mut flows = Vec::new();
+    for to in 1..tasks.len() {
+        if rng.chance(90) {
+            flows.extend(flow(draft, size, ticks, &tasks, to - 1, to, rng));
+        }
+        while rng.chance(30) {
+            let from = rng.below(to);
+            flows.extend(flow(draft, size, ticks, &tasks, from, to, rng));
+        }
+    }
+    for flow in &mut flows {
+        let ends = [tasks[flow.from].vcpu, tasks[flow.to].vcpu];
+        let [from, to] = ends.map(|vcpu| draft.node_of_vcpu(vcpu));
+        if rng.chance(60) && draft.walk(from, to, 1, rng).is_some() {
+            flow.hops = 1;
+        }
+    }
+    Transaction {
+        period,
+        tasks,
+        flows,
+    }
+}
+
+/// A VCPU to send to: any, or one on the same node, or one on a node that a
+/// link leads to, where there is such.
+fn next_vcpu(draft: &Draft, vcpu: u32, near: Option<bool>, rng: &mut Rng) -> u32 {
+    let node = |vcpu: u32| draft.node_of_vcpu(vcpu);
+    let leads_to = |other: u32| {
+        let mut links = draft.plan.links.iter();
+        links.any(|link| link[..2] == [node(vcpu), node(other)])
+    };
+    let serves = |other: &u32| match near {
+        None => true,
+        Some(true) => node(*other) == node(vcpu),
+        Some(false) => leads_to(*other),
+    };
+    let vcpus: Vec<u32> = (0..draft.plan.vcpus.len() as u32).collect();
+    let serving: Vec<u32> = vcpus.iter().copied().filter(serves).collect();
+    rng.pick_any(&serving).unwrap_or(rng.pick(&vcpus))
+}
+
+/// As many messages as there may be, most of them in few long rows of tasks
+/// with two messages between neighbours, or with two tasks side by side that
+/// both send to both of the next two. So many paths lead along them that none
+/// can follow each. Some tasks of the same period have no message at all.
+pub fn diamond(rng: &mut Rng) -> Plan {
+    loop {
+        if let Some(plan) = try_diamond(rng) {
+            return plan;
+        }
+    }
+}
+
+fn try_diamond(rng: &mut Rng) -> Option<Plan> {
+    let cycle = rng.pick(&[20_000, 60_000]);
+    let mut draft = Draft::new(cycle, rng.within(0..=3));
+    let nodes = rng.within(2..=3);
+    for core in 0..2 * nodes {
+        draft.add_core(core % nodes, rng.within(0..=2), rng.within(0..=2));
+        draft.add_vcpu(core);
+    }
+    for from in 0..nodes {
+        for to in (0..nodes).filter(|to| *to != from) {
+            draft.add_link([from, to, rng.within(0..=2), rng.within(352..=10_000)]);
+        }
+    }
+    let period = cycle / rng.pick(&[1, 1, 2]);
+    let rows = rng.pick(&[1, 1, 2]);
+    for _ in 0..rows {
+        let transaction = if rng.chance(70) {
+            row_of_tasks(&draft, period, 32 / rows, rng)
+        } else {
+            rows_side_by_side(&draft, period, 32 / rows, rng)
+        };
+        if !draft.add(&transaction, rng) {
+            return None;
+        }
+    }
+    for _ in 0..rng.within(1..=3) {
+        let vcpu = rng.below(draft.plan.vcpus.len()) as u32;
+        let alone = Transaction {
+            period,
+            tasks: vec![quick_task(vcpu)],
+            flows: Vec::new(),
+        };
+        draft.add(&alone, rng);
+    }
+    draft.finish(rng)
+}
+
+fn quick_task(vcpu: u32) -> NewTask {
+    NewTask {
+        vcpu,
+        budget: 1,
+        least_pieces: 1,
+        most_pieces: 1,
+        haste: Haste::Early,
+    }
+}
+
+fn quick_flow(from: usize, to: usize) -> Flow {
+    Flow {
+        from,
+        to,
+        hops: 1,
+        payload: 46,
+    }
+}
+
+/// A VCPU on the node of another, or on another node.
+fn vcpu_beside(draft: &Draft, vcpu: u32, near: bool, rng: &mut Rng) -> u32 {
+    let node = draft.node_of_vcpu(vcpu);
+    let vcpus = 0..draft.plan.vcpus.len() as u32;
+    let serves = |other: &u32| (draft.node_of_vcpu(*other) == node) == near;
+    let vcpus: Vec<u32> = vcpus.filter(serves).collect();
+    rng.pick(&vcpus)
+}
+
+/// Tasks with two messages from each to the next: so many times two streams,
+/// and as often two buffers, in any order.
+fn row_of_tasks(draft: &Draft, period: u32, of_each: usize, rng: &mut Rng) -> Transaction {
+    let mut steps = [vec![true; of_each], vec![false; of_each]].concat();
+    rng.shuffle(&mut steps);
+    let mut vcpu = rng.below(draft.plan.vcpus.len()) as u32;
+    let mut tasks = vec![quick_task(vcpu)];
+    let mut flows = Vec::new();
+    for (from, near) in steps.into_iter().enumerate() {
+        vcpu = vcpu_beside(draft, vcpu, near, rng);
+        tasks.push(quick_task(vcpu));
+        flows.extend([quick_flow(from, from + 1); 2]);
+    }
+    Transaction {
+        period,
+        tasks,
+        flows,
+    }
+}
+
+/// Two tasks on two nodes, each of which sends to both of the next two: so
+/// many steps, each of two streams and two buffers.
+fn rows_side_by_side(draft: &Draft, period: u32, steps: usize, rng: &mut Rng) -> Transaction {
+    let vcpu = rng.below(draft.plan.vcpus.len()) as u32;
+    let other = vcpu_beside(draft, vcpu, false, rng);
+    let mut tasks = Vec::new();
+    let mut flows = Vec::new();
+    for step in 0..=steps {
+        for vcpu in [vcpu, other] {
+            let vcpu = vcpu_beside(draft, vcpu, true, rng);
+            tasks.push(quick_task(vcpu));
+        }
+        if step > 0 {
+            let (from, to) = (2 * step - 2, 2 * step);
+            for (from, to) in [
+                (from, to),
+                (from, to + 1),
+                (from + 1, to),
+                (from + 1, to + 1),
+            ] {
+                flows.push(quick_flow(from, to));
+            }
+        }
+    }
+    Transaction {
+        period,
+        tasks,
+        flows,
+    }
 }

@@ -6,7 +6,7 @@ use crate::boundary::{write_state, write_words, STATE};
 use crate::dispatch::{start, State};
 use crate::generate;
 use crate::image::{set_word, TRAILER, WORD};
-use crate::mutate::{mutant, mutate};
+use crate::mutate::{aim, mutant, mutate};
 use crate::rng::Rng;
 use crate::table::tables;
 
@@ -60,6 +60,8 @@ fn image_of(case: u64, rng: &mut Rng) -> Image {
         375 | 875 => (mutate(&generate::large(rng), rng), true),
         500 => (generate::busy_core(rng).encode(), false),
         750 => (mutate(&generate::busy_core(rng), rng), true),
+        249 => (generate::diamond(rng).encode(), false),
+        250 => (no_path(rng), true),
         _ => match rng.below(100) {
             0..=1 => (random_bytes(rng), false),
             2..=12 => (generate::accepted(rng).encode(), false),
@@ -68,7 +70,19 @@ fn image_of(case: u64, rng: &mut Rng) -> Image {
     }
 }
 
-/// The same without the largest.
+/// A chain without a path, or one that lost it, among more paths than can be
+/// followed.
+fn no_path(rng: &mut Rng) -> Vec<u8> {
+    let plan = generate::diamond(rng);
+    loop {
+        let mut changed = plan.clone();
+        if aim(30, &mut changed, rng).is_some() {
+            return changed.encode();
+        }
+    }
+}
+
+/// Images as `image_of` has them, without the largest.
 fn small_image(rng: &mut Rng) -> Image {
     let plan = if rng.chance(30) {
         generate::small(rng)

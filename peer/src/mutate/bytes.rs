@@ -1,7 +1,8 @@
 //! Changes of the image's bytes, among them those aimed at questions 1 to 3.
 
 use crate::image::{
-    set_word, width, word_at, Plan, Trailer, LINK, LONGEST, ROW_BOUNDS, TRAILER, WIDTHS, WORD,
+    set_word, width, word_at, Plan, Trailer, CHAIN, LINK, LONGEST, ROW_BOUNDS, TABLES, TRAILER,
+    WIDTHS, WORD,
 };
 use crate::rng::Rng;
 
@@ -41,9 +42,15 @@ pub fn scatter(mut image: Vec<u8>, rng: &mut Rng) -> Vec<u8> {
 }
 
 fn length(mut image: Vec<u8>, rng: &mut Rng) -> Vec<u8> {
-    match rng.below(4) {
+    match rng.below(5) {
         0 => image.clear(),
         1 => image.truncate(rng.below(TRAILER)),
+        3 => {
+            // As short as images once were.
+            let shorter = OLD_TRAILER + rng.below(TRAILER - OLD_TRAILER);
+            image.drain(..image.len() - shorter);
+            set_word(&mut image, shorter - WORD, (shorter - OLD_TRAILER) as u32);
+        }
         2 => {
             image.truncate(TRAILER - 1);
             image.fill(0);
@@ -57,7 +64,7 @@ fn length(mut image: Vec<u8>, rng: &mut Rng) -> Vec<u8> {
     image
 }
 
-/// Makes the last word the length less 84.
+/// Makes the last word the length less 92.
 fn point_back(image: &mut [u8]) {
     let length = image.len();
     set_word(image, length - WORD, (length - TRAILER) as u32);
@@ -66,16 +73,45 @@ fn point_back(image: &mut [u8]) {
 fn last_word(mut image: Vec<u8>, rng: &mut Rng) -> Vec<u8> {
     let at = image.len() - WORD;
     let old = word_at(&image, at);
-    match rng.below(5) {
+    match rng.below(6) {
+        5 => return nine_tables(image, rng),
         0 => image.truncate((at + rng.below(WORD)).max(TRAILER)),
         1 => image.extend((0..=rng.below(8)).map(|byte| byte as u8)),
         2 => image.insert(0, 0),
         3 => set_word(&mut image, at, rng.word()),
         _ => {
-            let near = [old + 1, old.wrapping_sub(1), old + 4, old + 84, u32::MAX];
+            let near = [
+                old + 1,
+                old.wrapping_sub(1),
+                old + 4,
+                old + (TRAILER - OLD_TRAILER) as u32,
+                old + TRAILER as u32,
+                u32::MAX,
+            ];
             set_word(&mut image, at, rng.pick(&near));
         }
     }
+    image
+}
+
+/// Trailer and last word before there were chains.
+const OLD_TRAILER: usize = TRAILER - 2 * WORD;
+
+/// The image without a tenth table, its last word as it was or as it would be
+/// now.
+fn nine_tables(mut image: Vec<u8>, rng: &mut Rng) -> Vec<u8> {
+    let at = offset_byte(&image, CHAIN as usize - 1);
+    let begin = word_at(&image, at) as usize;
+    image.drain(at..at + 2 * WORD);
+    let end = image.len() - OLD_TRAILER;
+    image.drain(begin..end);
+    let length = image.len();
+    let pointed = if rng.chance(70) { OLD_TRAILER } else { TRAILER };
+    set_word(
+        &mut image,
+        length - WORD,
+        length.saturating_sub(pointed) as u32,
+    );
     image
 }
 
@@ -103,7 +139,7 @@ fn offset_byte(image: &[u8], table: usize) -> usize {
 }
 
 fn one_table(mut image: Vec<u8>, rng: &mut Rng) -> Vec<u8> {
-    let at = offset_byte(&image, rng.below(9));
+    let at = offset_byte(&image, rng.below(TABLES));
     let old = word_at(&image, at);
     let changes = [4, 1, 12, 1 << 30, 1 << 31, u32::MAX, u32::MAX - 3];
     set_word(&mut image, at, old.wrapping_add(rng.pick(&changes)));
@@ -113,7 +149,7 @@ fn one_table(mut image: Vec<u8>, rng: &mut Rng) -> Vec<u8> {
 /// A count that is off by one, or right modulo 2^30 only: with four bytes to
 /// a word its table's end is right modulo 2^32.
 fn one_count(mut image: Vec<u8>, rng: &mut Rng) -> Vec<u8> {
-    let table = rng.below(9);
+    let table = rng.below(TABLES);
     let at = offset_byte(&image, table) + WORD;
     let old = word_at(&image, at);
     let counts = [
@@ -133,7 +169,7 @@ fn one_count(mut image: Vec<u8>, rng: &mut Rng) -> Vec<u8> {
 /// Counts beyond 2^30 with offsets that follow from them modulo 2^32.
 fn many_tables(mut image: Vec<u8>, rng: &mut Rng) -> Vec<u8> {
     let mut next = 0_u32;
-    let chosen = rng.below(9);
+    let chosen = rng.below(TABLES);
     for (table, width) in WIDTHS.iter().enumerate() {
         let at = offset_byte(&image, table);
         let mut count = word_at(&image, at + WORD);
@@ -154,7 +190,7 @@ fn old_link_rows(mut image: Vec<u8>) -> Vec<u8> {
         let rate = begin as usize + (row * width(LINK) + 3) * WORD;
         image.drain(rate..rate + WORD);
     }
-    for table in LINK as usize..WIDTHS.len() {
+    for table in LINK as usize..TABLES {
         let at = offset_byte(&image, table);
         let offset = word_at(&image, at) - rows * WORD as u32;
         set_word(&mut image, at, offset);
@@ -165,11 +201,12 @@ fn old_link_rows(mut image: Vec<u8>) -> Vec<u8> {
 
 /// One more row than a table may have, laid out as it should be.
 fn too_many_rows(plan: &mut Plan, rng: &mut Rng) {
-    match rng.below(5) {
+    match rng.below(6) {
         0 => plan.cores.resize(33, [0, 0, 0]),
         1 => plan.vcpus.resize(65, [0]),
         2 => plan.links.resize(65, [0, 1, 0, 1]),
         3 => plan.streams.resize(65, [0, 1, 0, 1, 46]),
+        4 => plan.chains.resize(33, [0, 1, 0]),
         _ => plan.buffers.resize(65, [0, 0, 1]),
     }
 }
@@ -178,8 +215,8 @@ fn too_many_rows(plan: &mut Plan, rng: &mut Rng) {
 /// the last word takes them into account.
 fn widened(plan: Plan, rng: &mut Rng) -> Vec<u8> {
     let mut image = plan.encode();
-    let at = match rng.below(10) {
-        9 => image.len() - TRAILER,
+    let at = match rng.below(TABLES + 1) {
+        TABLES => image.len() - TRAILER,
         table => word_at(&image, offset_byte(&image, table)) as usize,
     };
     let count = rng.pick(&[1, 2, 3, 4, 4, 8]);

@@ -15,7 +15,7 @@ pub fn limits(plan: &mut Plan, rng: &mut Rng) -> Option<()> {
 }
 
 pub fn row_number(plan: &mut Plan, rng: &mut Rng) -> Option<()> {
-    let [cores, vcpus, tasks, _, _, links, streams, _, _] = plan.counts();
+    let [cores, vcpus, tasks, _, _, links, streams, ..] = plan.counts();
     let mut beyond = |rows: usize| {
         let rows = rows as u32;
         let more = rows + rng.word() % 8;

@@ -5,34 +5,58 @@
 
 mod buffers;
 mod bytes;
+mod chains;
 mod charges;
 mod cores;
 mod streams;
 
 use crate::generate;
+use crate::histogram::questions;
 use crate::image::{Plan, ROW_BOUNDS, WINDOW};
 use crate::rng::Rng;
 
 /// An image made of an accepted plan by one change, sometimes by two.
 pub fn mutate(plan: &Plan, rng: &mut Rng) -> Vec<u8> {
     let mut plan = plan.clone();
-    let first = rng.below(27) as u32;
-    if (4..=24).contains(&first) {
-        aim_or_near(first, &mut plan, rng);
+    let first = match rng.below(30) as u32 {
+        0 => Change::Harmless,
+        chosen @ 1..=3 => Change::Bytes(chosen),
+        4..=27 => Change::Rows(any_of_rows(rng)),
+        _ => Change::Scattered,
+    };
+    if let Change::Rows(question) = first {
+        aim_or_near(question, &mut plan, rng);
     }
-    if (first == 0 || rng.chance(12)) && is_sound(&plan) {
-        let second = rng.within(4..=24);
-        if first == 0 {
+    if (first == Change::Harmless || rng.chance(12)) && is_sound(&plan) {
+        let second = any_of_rows(rng);
+        if first == Change::Harmless {
             harmless(&mut plan, rng);
         } else {
             aim_or_near(second, &mut plan, rng);
         }
     }
     match first {
-        1..=3 => bytes::aim(first, plan, rng),
-        25.. => bytes::scatter(plan.encode(), rng),
+        Change::Bytes(question) => bytes::aim(question, plan, rng),
+        Change::Scattered => bytes::scatter(plan.encode(), rng),
         _ => plan.encode(),
     }
+}
+
+/// What is changed first.
+#[derive(Clone, Copy, PartialEq, Eq)]
+enum Change {
+    Harmless,
+    /// Aimed at one of the first three questions.
+    Bytes(u32),
+    /// Aimed at another one.
+    Rows(u32),
+    Scattered,
+}
+
+/// Any of the questions that are asked of rows, or of H and P.
+fn any_of_rows(rng: &mut Rng) -> u32 {
+    let of_rows: Vec<u32> = questions().skip(3).collect();
+    rng.pick(&of_rows)
 }
 
 /// An image made of a plan of its own, mostly one with rows in every table.
@@ -48,11 +72,7 @@ pub fn mutant(rng: &mut Rng) -> Vec<u8> {
 /// Aims at a question, or at others where the plan has no rows for it.
 fn aim_or_near(question: u32, plan: &mut Plan, rng: &mut Rng) {
     for turn in 0..40 {
-        let near = if turn < 8 {
-            question
-        } else {
-            rng.within(4..=24)
-        };
+        let near = if turn < 8 { question } else { any_of_rows(rng) };
         let mut changed = plan.clone();
         if aim(near, &mut changed, rng).is_some() {
             *plan = changed;
@@ -86,19 +106,24 @@ pub fn aim(question: u32, plan: &mut Plan, rng: &mut Rng) -> Option<()> {
         22 => buffers::sides(plan, rng),
         23 => buffers::order(plan, rng),
         24 => buffers::hold_clash(plan, rng),
+        29 => chains::tasks(plan, rng),
+        30 => chains::path(plan, rng),
+        31 => chains::limit(plan, rng),
         _ => None,
     }
 }
 
 /// Changes that most plans bear.
 fn harmless(plan: &mut Plan, rng: &mut Rng) {
-    match rng.below(7) {
+    match rng.below(9) {
         0 => plan.precision = plan.precision.saturating_sub(1),
         1 => plan.tasks.iter_mut().for_each(|task| task[4] = task[2]),
         2 => plan.tasks.iter_mut().for_each(|task| task[1] = u32::MAX),
         3 => plan.streams.iter_mut().for_each(|row| row[2] = 1_000_000),
         4 => rng.shuffle(&mut plan.pieces),
         5 => rng.shuffle(&mut plan.windows),
+        6 => rng.shuffle(&mut plan.chains),
+        7 => plan.chains.iter_mut().for_each(|row| row[2] = u32::MAX),
         _ if plan.windows.len() < ROW_BOUNDS[WINDOW as usize - 1].1 as usize => {
             generate::cut_window(plan, rng);
         }
@@ -126,7 +151,7 @@ fn words_are_moderate(plan: &Plan) -> bool {
 }
 
 fn rows_lead(plan: &Plan) -> bool {
-    let [cores, vcpus, tasks, _, _, links, streams, _, _] = plan.counts();
+    let [cores, vcpus, tasks, _, _, links, streams, ..] = plan.counts();
     let names = |number: u32, rows: usize| (number as usize) < rows;
     plan.vcpus.iter().all(|row| names(row[0], cores))
         && plan.tasks.iter().all(|row| names(row[0], vcpus))
@@ -139,6 +164,8 @@ fn rows_lead(plan: &Plan) -> bool {
         && plan.frames.iter().all(|row| names(row[3], links))
         && plan.buffers.iter().all(|row| names(row[1], tasks))
         && plan.buffers.iter().all(|row| names(row[2], tasks))
+        && plan.chains.iter().all(|row| names(row[0], tasks))
+        && plan.chains.iter().all(|row| names(row[1], tasks))
 }
 
 /// A word of a computed value; what does not fit wraps.

@@ -1,4 +1,5 @@
-//! The claims about jobs, messages and holds, after some moves of all lanes.
+//! The claims about jobs, messages, chains and holds, after some moves of all
+//! lanes.
 
 use super::clocks::{Clocks, TrueTime};
 use super::reading::{JobId, Reading, Tick};
@@ -87,7 +88,7 @@ fn name(id: JobId) -> String {
     format!("job {k} of task {task} in cycle c + {cycle}")
 }
 
-/// The messages of a run under one choice of clocks.
+/// The messages and chains of a run under one choice of clocks.
 pub struct Messages<'a> {
     plan: &'a Plan,
     clocks: &'a Clocks,
@@ -111,8 +112,15 @@ impl<'a> Messages<'a> {
         }
     }
 
-    /// Asks every claim about messages.
+    /// Asks every claim about messages and chains.
     pub fn ask(&self, reading: &Reading, report: &mut Report) {
+        self.ask_messages(reading, report);
+        for row in 0..self.plan.chains.len() {
+            self.ask_chain(reading, row, report);
+        }
+    }
+
+    fn ask_messages(&self, reading: &Reading, report: &mut Report) {
         for (row, &[sender, receiver, ..]) in self.plan.streams.iter().enumerate() {
             for receiver in reading.ids(receiver, reading.cycles()) {
                 let message = Message {
@@ -193,6 +201,49 @@ impl<'a> Messages<'a> {
         }
         if start < 0 {
             report.tally.count(Fact::SentBelowZero);
+        }
+    }
+
+    /// From the first task's start to the last one's end it is at most the
+    /// limit, in every job of every cycle. A chain of tasks that there are
+    /// not, or that have not equally many jobs, is nothing to be asked of.
+    fn ask_chain(&self, reading: &Reading, row: usize, report: &mut Report) {
+        let [first, last, limit] = self.plan.chains[row];
+        let exists = |task: u32| (task as usize) < self.plan.tasks.len();
+        if !exists(first) || !exists(last) || self.plan.jobs(first) != self.plan.jobs(last) {
+            return;
+        }
+        let limit = match limit {
+            0 => self.plan.period(first),
+            given => given,
+        };
+        for last in reading.ids(last, reading.cycles()) {
+            let begun = reading.start(JobId {
+                task: first,
+                ..last
+            });
+            let (Some(begun), Some(ended)) = (begun, reading.end(last)) else {
+                continue;
+            };
+            let (start, end) = (self.time.begin(begun), self.time.end(ended));
+            let taken = end - start;
+            let in_time = taken <= i128::from(limit);
+            report.ask(in_time, Fact::ChainEnded, || {
+                let last = name(last);
+                let times = format!("{taken} after {start}; the limit is {limit}");
+                Violation {
+                    claim: Claim::Chain,
+                    after: reading.moves,
+                    clocks: Some(self.clocks.to_string()),
+                    what: format!("chain {row}: {last} ends at true time {end}, {times}"),
+                }
+            });
+            if taken == i128::from(limit) {
+                report.tally.count(Fact::ChainEndedAtLimit);
+            }
+            if self.plan.node_of_task(first) == self.plan.node_of_task(last.task) {
+                report.tally.count(Fact::ChainOnOneNode);
+            }
         }
     }
 

@@ -19,6 +19,7 @@ pub enum Dial {
     /// The same.
     Rate(usize),
     FrameStart(usize),
+    Limit(usize),
 }
 
 /// An accepted plan, and the same one tick further.
@@ -44,7 +45,7 @@ pub fn edges(plan: &Plan, rng: &mut Rng) -> Vec<Edge> {
 }
 
 fn dials(plan: &Plan) -> Vec<Dial> {
-    let [_, _, tasks, _, pieces, links, streams, frames, _] = plan.counts();
+    let [_, _, tasks, _, pieces, links, streams, frames, _, chains] = plan.counts();
     let mut dials = vec![Dial::Precision];
     dials.extend((0..tasks).map(Dial::Budget));
     dials.extend((0..pieces).map(Dial::PieceStart));
@@ -54,6 +55,7 @@ fn dials(plan: &Plan) -> Vec<Dial> {
     dials.extend((0..streams).map(Dial::Payload));
     dials.extend((0..links).map(Dial::Rate));
     dials.extend((0..frames).map(Dial::FrameStart));
+    dials.extend((0..chains).map(Dial::Limit));
     dials
 }
 
@@ -97,7 +99,8 @@ impl Dial {
         }
     }
 
-    /// The word that the dial turns. A latency of 0 is first written out.
+    /// The word that the dial turns. A latency or limit of 0 is first
+    /// written out.
     fn word(self, plan: &mut Plan) -> &mut u32 {
         match self {
             Dial::Precision => &mut plan.precision,
@@ -114,6 +117,12 @@ impl Dial {
             Dial::Payload(row) => &mut plan.streams[row][4],
             Dial::Rate(row) => &mut plan.links[row][3],
             Dial::FrameStart(row) => &mut plan.frames[row][4],
+            Dial::Limit(row) => {
+                if plan.chains[row][2] == 0 {
+                    plan.chains[row][2] = plan.period(plan.chains[row][0]);
+                }
+                &mut plan.chains[row][2]
+            }
         }
     }
 }

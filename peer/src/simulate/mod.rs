@@ -27,7 +27,7 @@ pub use edges::{edges, Dial, Edge};
 pub use report::{Claim, Fact, Report, Tally, Violation, FACTS};
 pub use rows::rows;
 pub use run::{all_lanes, mixed, Call, Called, Run};
-pub use survey::{guarded, only_shared_tasks, survey, Noticed, Survey, QUESTIONS};
+pub use survey::{guarded, only_one_clock, only_shared_tasks, survey, Noticed, Survey, QUESTIONS};
 pub use tables::Tables;
 
 use claims::{ask_holds, ask_jobs, without_times, Messages};

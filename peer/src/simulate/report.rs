@@ -24,6 +24,8 @@ pub enum Claim {
     Arrived,
     /// It ends at most E after the sender's job started.
     Latency,
+    /// A chain's last task ends at most the limit after its first started.
+    Chain,
     /// No other task of its buffer runs in a hold.
     Hold,
 }
@@ -67,12 +69,15 @@ pub enum Fact {
     ReceiverEnded,
     EndedAtLatency,
     SentBelowZero,
+    ChainEnded,
+    ChainEndedAtLimit,
+    ChainOnOneNode,
     HoldOver,
     HoldOpen,
     HoldShared,
 }
 
-pub const FACTS: [(Fact, &str); 14] = [
+pub const FACTS: [(Fact, &str); 17] = [
     (Fact::GaveZero, "calls that gave 0"),
     (Fact::GaveEnd, "calls that gave 28"),
     (Fact::Shown, "moves that showed their table's entry"),
@@ -84,6 +89,15 @@ pub const FACTS: [(Fact, &str); 14] = [
     (Fact::ReceiverEnded, "receivers ended within E"),
     (Fact::EndedAtLatency, "  of these exactly E after"),
     (Fact::SentBelowZero, "  of these sent before true time 0"),
+    (Fact::ChainEnded, "chains ended within their limit"),
+    (
+        Fact::ChainEndedAtLimit,
+        "  of these exactly the limit after",
+    ),
+    (
+        Fact::ChainOnOneNode,
+        "  of these with both ends on one node",
+    ),
     (Fact::HoldOver, "holds over"),
     (Fact::HoldOpen, "holds open at the last tick shown"),
     (Fact::HoldShared, "holds of a buffer with other tasks"),

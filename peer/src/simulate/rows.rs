@@ -35,6 +35,7 @@ pub fn rows(plan: &Plan) -> String {
         ["number", "writer", "reader"],
         &plan.buffers,
     );
+    write(&mut text, "chain", ["first", "last", "limit"], &plan.chains);
     text
 }
 

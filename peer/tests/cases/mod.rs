@@ -30,8 +30,19 @@ pub fn case_b() -> Plan {
         links: vec![[0, 1, 1, 352]],
         streams: vec![[0, 1, 13, 1, 46]],
         frames: vec![[0, 0, 0, 0, 6]],
-        buffers: vec![],
+        ..Plan::default()
     }
+}
+
+/// Case B with a third task that reads the receiver's buffer on its node, and
+/// a chain from the first to the third that is exactly met: 14 + 4 - 2 + P.
+pub fn case_chain() -> Plan {
+    let mut plan = case_b();
+    plan.tasks.push([1, 3, 20, 3, 20]);
+    plan.pieces.push([2, 0, 14, 4]);
+    plan.buffers = vec![[5, 1, 2]];
+    plan.chains = vec![[0, 2, 17]];
+    plan
 }
 
 /// Two rows of one buffer on two cores of a node, without switches; the

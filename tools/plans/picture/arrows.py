@@ -7,12 +7,12 @@ MANY = 250  # arrows; more are drawn faint and without heads
 def draw_arrows(scene):
     """Marked arrows last."""
     lines = [line for stream in range(len(scene.plan.rows["stream"])) for line in stream_lines(scene, stream)]
-    lines = [line for line in lines if _in_view(scene.scale, line[1])]
+    lines = [line for line in lines if in_view(scene.scale, line[1])]
     for marked, ends, title in sorted(lines, key=lambda line: line[0]):
         _draw_arrow(scene, marked, ends, title, len(lines) > MANY)
 
 
-def _in_view(scale, ends):
+def in_view(scale, ends):
     (one, _), (other, _) = ends
     return min(one, other) <= scale.last and max(one, other) >= scale.first
 
@@ -23,12 +23,12 @@ def _draw_arrow(scene, marked, ends, title, faint):
     head = "amh" if marked else "ah"
     inside = scene.scale.first <= ends[1][0] <= scene.scale.last
     more = {"marker_end": f"url(#{head})"} if inside and (marked or not faint) else {}
-    (x1, y1), (x2, y2) = (_point(scene.scale, ends, end) for end in ends)
+    (x1, y1), (x2, y2) = (point(scene.scale, ends, end) for end in ends)
     scene.svg.line(look, x1, y1, x2, y2, title, **more)
     scene.marks_drawn += marked
 
 
-def _point(scale, ends, end):
+def point(scale, ends, end):
     """Where a line between two (tick, y) is at one of them, or at the edge of the view before that."""
     (tick, y), ((left, y1), (right, y2)) = end, sorted(ends)
     seen = min(max(tick, scale.first), scale.last)

@@ -1,7 +1,7 @@
 """Windows, pieces, frames and holds as blocks in their lanes."""
 from dataclasses import dataclass
 
-from .lanes import hold_tracks, tracks_of
+from .lanes import tracks_of
 from .style import FONT, SMALL, TINTS, WINDOW_TINTS, fitting, text_width
 
 THIN = 3  # pixels; narrower blocks have no outline
@@ -39,9 +39,8 @@ def draw_blocks(scene):
         for block in described:
             if scene.marks.has(block.kind, block.row) and not scene.scale.shows(block.start, block.end):
                 _point_out_of_view(scene, block)
-    tracks = hold_tracks(scene.holds)
     for hold in scene.holds:
-        draw_hold(scene, hold, tracks[hold])
+        draw_hold(scene, hold, scene.hold_tracks[hold])
 
 
 def windows(scene):

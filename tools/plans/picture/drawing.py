@@ -7,6 +7,7 @@ from .marks import Marks
 from .scene import Scene
 from .style import DEFINITIONS, STYLE
 from .surroundings import TITLE_LINE, draw_axis, draw_labels, draw_legend, draw_title, wrapped
+from .threads import draw_chains
 
 TITLE_WIDTH = 980
 
@@ -41,6 +42,7 @@ def picture(plan, name, answer=None, view=None):
     draw_axis(scene)
     draw_blocks(scene)
     draw_travels(scene)
+    draw_chains(scene)
     draw_arrows(scene)
     draw_marked_jobs(scene)
     draw_labels(scene)

@@ -44,4 +44,16 @@ def _of_stream(marks, plan, meaning, stream):
     marks.where(plan, "frame", lambda number, record: record.stream == stream)
 
 
-BELONGING = {"core": _of_core, "vcpu": _of_vcpu, "task": _of_task, "link": _of_link, "stream": _of_stream}
+def _of_chain(marks, plan, meaning, chain):
+    row = plan.row("chain", chain)
+    marks.where(plan, "piece", lambda number, record: row and record.task in (row.first, row.last))
+
+
+BELONGING = {
+    "core": _of_core,
+    "vcpu": _of_vcpu,
+    "task": _of_task,
+    "link": _of_link,
+    "stream": _of_stream,
+    "chain": _of_chain,
+}

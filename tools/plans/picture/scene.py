@@ -1,6 +1,6 @@
 """What all parts of a picture share: plan, meaning, marks, scale, lanes and the SVG they draw on."""
 from ..meaning import Meaning
-from .lanes import Lanes, buffer_lanes, core_lanes, link_lanes, stray_lanes
+from .lanes import Lanes, buffer_lanes, core_lanes, hold_tracks, link_lanes, stray_lanes
 from .marks import Marks
 from .scale import Scale, view_of, width_of
 from .style import FONT, SMALL, cut, text_width
@@ -21,6 +21,7 @@ class Scene:
         self.marks_drawn = 0
         first, last = self._ticks(options)
         self.holds = [hold for hold in self.meaning.holds() if hold.start < last and hold.end > first]
+        self.hold_by_job = {(hold.row, hold.job): hold for hold in self.holds}
         lanes = self._chosen(options.lanes)
         with_jobs = {("core", self.meaning.core_of_task(task)) for task, _ in self.marked_jobs()}
         for lane in lanes:
@@ -28,6 +29,7 @@ class Scene:
             lane.jobs = (lane.kind, lane.key) in with_jobs
         self.scale = Scale(first, last, self._left(lanes), options.width or self._width(first, last))
         self.lanes = Lanes(lanes, top)
+        self.hold_tracks = hold_tracks(self.holds)
 
     def _chosen(self, names):
         """Cores and links by name, all if none is named, and the buffers whose writer or reader is on such a core."""

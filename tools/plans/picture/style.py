@@ -9,6 +9,7 @@ TINTS = ("#a6d4f2", "#ffd596", "#98d9bf", "#f5efa0", "#e6bfd7", "#bcc7e0", "#dcc
 WINDOW_TINTS = ("#f1f6fc", "#fdf6ec", "#f0f9f2", "#f8f1f8")
 MARK = "#b0003a"
 ARROW = "#1b3a6b"
+CHAIN = "#00704a"
 
 STYLE = "".join(
     [
@@ -35,6 +36,8 @@ STYLE = "".join(
         ".halo{stroke-width:3px;stroke-opacity:1;font-weight:bold;fill:#000}",
         f".a{{stroke:{ARROW};stroke-width:1.2;fill:none}}.ah{{fill:{ARROW}}}.faint{{stroke-width:.6;opacity:.35}}",
         f".am{{stroke:{MARK};stroke-width:2.6;fill:none}}.amh{{fill:{MARK}}}",
+        f".c{{stroke:{CHAIN};stroke-width:4;stroke-opacity:.5;fill:none;stroke-linecap:round}}.chain{{fill:{CHAIN}}}",
+        f".c.am{{stroke:{MARK};stroke-width:5;stroke-opacity:.8}}.c.faint{{stroke-width:1.5;opacity:.35}}",
         f".delay{{stroke:{ARROW};stroke-width:2}}.p-wait{{stroke:{ARROW};stroke-width:2;stroke-dasharray:1.5 2}}",
         f".job{{stroke:{MARK};stroke-width:1.6;fill:none;stroke-dasharray:4 2}}",
     ]

@@ -1,7 +1,7 @@
 """Title, axis, lane labels and legend."""
 from .style import FONT, SMALL, text_width
 
-LINES = ("delay", "p-wait", "a")
+LINES = ("delay", "p-wait", "a", "c")
 TITLE_LINE = 18
 
 
@@ -64,6 +64,8 @@ def legend(scene):
         yield "p t0", "work"
     if scene.holds:
         yield "h", "hold of a buffer"
+    if scene.plan.rows["chain"]:
+        yield "c", "chain"
     if scene.marks.answer and not scene.marks.answer.accepted:
         yield "m", "the row refused, or what belongs to it"
     if scene.scale.last > scene.plan.cycle:

@@ -9,7 +9,7 @@ use Rattle.plan.specs.Questions.{each, eachTable}
 use Rattle.plan.specs.Held.{Passed}
 use Rattle.plan.proofs.Asking.{passed-none, passed-more, passed-end, stopped-at}
 use Rattle.layout.specs.Tests.{rowTest}
-use Rattle.layout.proofs.Tables.{asked-table, nine-asked}
+use Rattle.layout.proofs.Tables.{asked-table, all-asked}
 use Rattle.layout.proofs.ask_tables.Statement.{statement}
 use Rattle.layout.proofs.ask_tables.Tie as tie
 use Rattle.layout.proofs.ask_tables.Reads as reads
@@ -20,10 +20,10 @@ use Rattle.plan.proofs.accepted.Reads as accepted-reads
 use Rattle.tables.proofs.shape_of.Reads as shape-of-reads
 
 abbrev Inv-loop : tie.InvT-loop
-Inv-loop image number i₀ i = (i ≤ 9) × Passed (eachTable image number tables (rowTest image number)) i
+Inv-loop image number i₀ i = (i ≤ 10) × Passed (eachTable image number tables (rowTest image number)) i
 
 abbrev μ-loop : tie.MeasureT-loop
-μ-loop image number i₀ i = 9 - i
+μ-loop image number i₀ i = 10 - i
 
 -- src/lib.rt:324:5
 loop-holds : tie.Need-loop-holds Inv-loop μ-loop
@@ -48,7 +48,7 @@ shape-of-requires c κs = tt
 -- src/lib.rt:328:17
 returns : tie.Need-returns Inv-loop μ-loop
 unfolding each
-returns c = let l = c .before .before .before .before .before .before .before .loop in let s = c .before .before .before .before .before .before .before .before .before .args .image .now in let m = c .before .before .before .before .before .before .before .before .before .args .number in let q = eachTable s m tables (rowTest s m) in let e = asked-table s m (rowTest s m) (l .i) (c .before .before .before .before .before .before .loop-test .taken) in let t = c .before .before .before .before .before .table-at .ensures in stopped-at q (l .i) _ m _ (l .inv .1) (rw nine-asked (c .before .before .before .before .before .before .loop-test .taken)) (rw (e, ← t) (sym (c .before .before .before .before .first-no .ensures) ∙ c .before .before .row .given .1)) (rw e refl) (rw (e, ← t) (sym (ap (λ (x : Shape). x .number) (c .shape-of .ensures))))
+returns c = let l = c .before .before .before .before .before .before .before .loop in let s = c .before .before .before .before .before .before .before .before .before .args .image .now in let m = c .before .before .before .before .before .before .before .before .before .args .number in let q = eachTable s m tables (rowTest s m) in let e = asked-table s m (rowTest s m) (l .i) (c .before .before .before .before .before .before .loop-test .taken) in let t = c .before .before .before .before .before .table-at .ensures in stopped-at q (l .i) _ m _ (l .inv .1) (rw all-asked (c .before .before .before .before .before .before .loop-test .taken)) (rw (e, ← t) (sym (c .before .before .before .before .first-no .ensures) ∙ c .before .before .row .given .1)) (rw e refl) (rw (e, ← t) (sym (ap (λ (x : Shape). x .number) (c .shape-of .ensures))))
 
 enum-told : tie.Need-enum-told Inv-loop μ-loop
 enum-told c = search needs
@@ -72,7 +72,7 @@ accepted-requires c κs = tt
 
 -- src/lib.rt:319:1
 returns-2 : tie.Need-returns-2 Inv-loop μ-loop
-returns-2 c = let l = c .before .before .loop in let s = c .before .before .before .before .args .image .now in let m = c .before .before .before .before .args .number in let q = eachTable s m tables (rowTest s m) in c .accepted .ensures ∙ sym (passed-end q (l .i) (rw nine-asked (omega arith)) (l .inv .1))
+returns-2 c = let l = c .before .before .loop in let s = c .before .before .before .before .args .image .now in let m = c .before .before .before .before .args .number in let q = eachTable s m tables (rowTest s m) in c .accepted .ensures ∙ sym (passed-end q (l .i) (rw all-asked (omega arith)) (l .inv .1))
 
 pub ask-tables-spec : {M : Type 1} → statement M
 ask-tables-spec =

@@ -142,6 +142,13 @@ returns-9 : tie.Need-returns-9
 unfolding names
 returns-9 c = let a = c .before .before .before .before .args in c .buffer-names .ensures ∙ sym (ap (λ (t : Table). names (a .image .now) t (a .row)) (c .before .enum-told9 .given .1))
 
+enum-told-10 : tie.Need-enum-told-10
+enum-told-10 c = search needs
+
+returns-10 : tie.Need-returns-10
+unfolding names
+returns-10 c = let a = c .before .before .before .args in sym (ap (λ (t : Table). names (a .image .now) t (a .row)) (c .enum-told10 .given .1))
+
 pub row-names-spec : {M : Type 1} → statement M
 row-names-spec =
     tie.close
@@ -166,6 +173,7 @@ row-names-spec =
     frame-names-requires
     enum-told-9
     buffer-names-requires
+    enum-told-10
     returns
     returns-2
     returns-3
@@ -174,4 +182,5 @@ row-names-spec =
     returns-6
     returns-7
     returns-8
-    returns-9)
+    returns-9
+    returns-10)

@@ -115,6 +115,13 @@ returns-9 : tie.Need-returns-9
 unfolding inRange
 returns-9 c = let a = c .before .before .before .before .args in c .buffer-range .ensures ∙ sym (ap (λ (t : Table). inRange (a .image .now) t (a .row)) (c .before .enum-told9 .given .1))
 
+enum-told-10 : tie.Need-enum-told-10
+enum-told-10 c = search needs
+
+returns-10 : tie.Need-returns-10
+unfolding inRange
+returns-10 c = let a = c .before .before .before .args in sym (ap (λ (t : Table). inRange (a .image .now) t (a .row)) (c .enum-told10 .given .1))
+
 pub row-range-spec : {M : Type 1} → statement M
 row-range-spec =
     tie.close
@@ -133,6 +140,7 @@ row-range-spec =
     enum-told-8
     enum-told-9
     buffer-range-requires
+    enum-told-10
     returns
     returns-2
     returns-3
@@ -141,4 +149,5 @@ row-range-spec =
     returns-6
     returns-7
     returns-8
-    returns-9)
+    returns-9
+    returns-10)

@@ -51,7 +51,12 @@ returns-8 c = rw (c .match .keys8) refl
 -- src/lib.rt:72:1
 returns-9 : tie.Need-returns-9
 unfolding tableAt tables
-returns-9 c = let r = c .match .rest in let n = c .before .args .i in let l : 4 ≤ n = omega (arith, r .0 .0 .0 .0 .0 .0 .0 .1, r .0 .0 .0 .0 .0 .0 .1, r .0 .0 .0 .0 .0 .1, r .0 .0 .0 .0 .1) in let e : n ≡ 8 = omega (arith, r .0 .0 .0 .1, r .0 .0 .1, r .0 .1, r .1, c .before .pre) in rw e refl
+returns-9 c = rw (c .match .keys9) refl
+
+-- src/lib.rt:72:1
+returns-10 : tie.Need-returns-10
+unfolding tableAt tables
+returns-10 c = let r = c .match .rest in let n = c .before .args .i in let l : 4 ≤ n = omega (arith, r .0 .0 .0 .0 .0 .0 .0 .0 .1, r .0 .0 .0 .0 .0 .0 .0 .1, r .0 .0 .0 .0 .0 .0 .1, r .0 .0 .0 .0 .0 .1) in let e : n ≡ 9 = omega (arith, r .0 .0 .0 .0 .1, r .0 .0 .0 .1, r .0 .0 .1, r .0 .1, r .1, c .before .pre) in rw e refl
 
 pub table-at-spec : {M : Type 1} → statement M
 table-at-spec =
@@ -65,4 +70,5 @@ table-at-spec =
     returns-6
     returns-7
     returns-8
-    returns-9)
+    returns-9
+    returns-10)

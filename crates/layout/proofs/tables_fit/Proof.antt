@@ -15,10 +15,10 @@ use Rattle.layout.proofs.table_fits.Reads as table-fits-reads
 use Rattle.tables.proofs.end_of.Reads as end-of-reads
 
 abbrev Inv-loop : tie.InvT-loop
-Inv-loop image from₀ i₀ from i = (i ≤ 9) × (laid image 0 tables ≡ laid image from (drop i tables))
+Inv-loop image from₀ i₀ from i = (i ≤ 10) × (laid image 0 tables ≡ laid image from (drop i tables))
 
 abbrev μ-loop : tie.MeasureT-loop
-μ-loop image from₀ i₀ from i = 9 - i
+μ-loop image from₀ i₀ from i = 10 - i
 
 -- src/lib.rt:106:5
 loop-holds : tie.Need-loop-holds Inv-loop μ-loop

@@ -42,6 +42,9 @@ enum-told-8 c = search needs
 enum-told-9 : tie.Need-enum-told-9
 enum-told-9 c = search needs
 
+enum-told-10 : tie.Need-enum-told-10
+enum-told-10 c = search needs
+
 -- src/lib.rt:162:1
 returns : tie.Need-returns
 unfolding shape
@@ -87,6 +90,11 @@ returns-9 : tie.Need-returns-9
 unfolding shape
 returns-9 c = sym (ap shape (c .enum-told9 .given .1))
 
+-- src/lib.rt:162:1
+returns-10 : tie.Need-returns-10
+unfolding shape
+returns-10 c = sym (ap shape (c .enum-told10 .given .1))
+
 pub shape-of-spec : {M : Type 1} → statement M
 shape-of-spec =
     tie.close
@@ -100,6 +108,7 @@ shape-of-spec =
     enum-told-7
     enum-told-8
     enum-told-9
+    enum-told-10
     returns
     returns-2
     returns-3
@@ -108,4 +117,5 @@ shape-of-spec =
     returns-6
     returns-7
     returns-8
-    returns-9)
+    returns-9
+    returns-10)

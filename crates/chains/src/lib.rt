@@ -1,0 +1,206 @@
+// Questions 29 to 31 (paper 02, request 3): chains over several messages.
+ghost use mathlib.Core.Path.{_≡_};
+ghost use Prim.Native.Nat.{_-_, _<_, _≤_};
+ghost use Rattle.plan.specs.declared.Table.the-variants.{Tasks, Chains};
+ghost use Rattle.plan.specs.Image as Image;
+ghost use Rattle.plan.specs.Image.{rows};
+ghost use Rattle.plan.specs.Questions.{jobs, chainTasks, chainPath, chainLimit, chainInTime, chainQuestions, questionAt, answerTo};
+ghost use Rattle.plan.specs.Held.{Sound, Passed, refusing};
+ghost use Rattle.jobs.specs.Times.{Timed};
+ghost use Rattle.chains.specs.Walks.{Asked, messages, senderOf, readerOf, leadsTo, sentOn, Marked, jobWithin};
+use jobs::first_start;
+use jobs::last_end;
+use plan::Answer;
+use plan::Found;
+use plan::Table;
+use tables::buffer_at;
+use tables::chain_at;
+use tables::precision_ticks;
+use tables::rows_of;
+use tables::shape_of;
+use tables::stream_at;
+use tables::task_at;
+use terms::jobs_of;
+
+// 29: do the chain's tasks exist, and differ?
+fn chain_tasks(image: &[u8], chain: u32) -> bool
+    requires { ⌜ Sound (now image) × (chain < rows (now image) Chains) ⌝ }
+    ensures { λ r. ⌜ r ≡ chainTasks (now (image .entry)) chain ⌝ }
+{
+    let c = chain_at(image, chain);
+    let tasks = rows_of(image, Table::Tasks);
+    (c.first < tasks) & (c.last < tasks) & !(c.first == c.last)
+}
+
+// How many messages there are: streams, then buffers.
+fn message_count(image: &[u8]) -> u32
+    requires { ⌜ Sound (now image) ⌝ }
+    ensures { λ r. ⌜ r ≡ messages (now (image .entry)) ⌝ }
+{
+    rows_of(image, Table::Streams) + rows_of(image, Table::Buffers)
+}
+
+// The task that sends a message.
+fn sender_of(image: &[u8], message: u32) -> u32
+    requires { ⌜ Sound (now image) × (message < messages (now image)) ⌝ }
+    ensures { λ r. ⌜ r ≡ senderOf (now (image .entry)) message ⌝ }
+{
+    let streams = rows_of(image, Table::Streams);
+    if message < streams {
+        stream_at(image, message).sender
+    } else {
+        buffer_at(image, message - streams).writer
+    }
+}
+
+// The task that reads a message.
+fn reader_of(image: &[u8], message: u32) -> u32
+    requires { ⌜ Sound (now image) × (message < messages (now image)) ⌝ }
+    ensures { λ r. ⌜ r ≡ readerOf (now (image .entry)) message ⌝ }
+{
+    let streams = rows_of(image, Table::Streams);
+    if message < streams {
+        stream_at(image, message).receiver
+    } else {
+        buffer_at(image, message - streams).reader
+    }
+}
+
+// From a message to the task that reads it: if the task before sends it, does its reader lead to the goal?
+fn from_message(image: &[u8], marks: &mut [u32], task: u32, message: u32, goal: u32) -> bool
+    requires { ⌜ Asked (now image) × ((task < rows (now image) Tasks) × ((message < messages (now image)) × Marked (now image) goal (now marks))) ⌝ }
+    ensures { λ r. ⌜ (r ≡ sentOn (now (image .entry)) task goal message) × Marked (now (image .entry)) goal (now (marks .exit)) ⌝ }
+{
+    if sender_of(image, message) != task {
+        return false;
+    }
+    let reader = reader_of(image, message);
+    from_task(image, marks, reader, goal)
+}
+
+// From a task to the messages it sends: does one lead to the goal? A task that does not is marked, and not searched again.
+fn from_task(image: &[u8], marks: &mut [u32], task: u32, goal: u32) -> bool
+    requires { ⌜ Asked (now image) × ((task < rows (now image) Tasks) × Marked (now image) goal (now marks)) ⌝ }
+    ensures { λ r. ⌜ (r ≡ leadsTo (now (image .entry)) task goal) × Marked (now (image .entry)) goal (now (marks .exit)) ⌝ }
+{
+    if task == goal {
+        return true;
+    }
+    if marks[task as usize] != 0 {
+        return false;
+    }
+    let messages = message_count(image);
+    let mut message: u32 = 0;
+    while message < messages {
+        if from_message(image, marks, task, message, goal) {
+            return true;
+        }
+        message += 1;
+    }
+    marks[task as usize] = 1;
+    false
+}
+
+// 30: do messages lead from the chain's first task to its last?
+fn chain_path(image: &[u8], chain: u32) -> bool
+    requires { ⌜ Asked (now image) × ((chain < rows (now image) Chains) × Passed (chainQuestions (now image)) 1) ⌝ }
+    ensures { λ r. ⌜ r ≡ chainPath (now (image .entry)) chain ⌝ }
+{
+    let c = chain_at(image, chain);
+    let mut marks = [0u32; 256];
+    from_task(image, &mut marks, c.first, c.last)
+}
+
+// A chain's limit; 0 stands for the first task's period.
+fn chain_limit(image: &[u8], chain: u32) -> u32
+    requires { ⌜ Sound (now image) × ((chain < rows (now image) Chains) × Passed (chainQuestions (now image)) 1) ⌝ }
+    ensures { λ r. ⌜ r ≡ chainLimit (now (image .entry)) chain ⌝ }
+{
+    let c = chain_at(image, chain);
+    if c.limit == 0 {
+        task_at(image, c.first).period
+    } else {
+        c.limit
+    }
+}
+
+// 31: does a job of the last task end within the limit, from the start of the first task's?
+fn job_within(image: &[u8], times: &[u32], chain: u32, job: u32) -> bool
+    requires { ⌜ Asked (now image) × Timed (now image) (now times) ⌝ }
+    requires { ⌜ (chain < rows (now image) Chains) × (Passed (chainQuestions (now image)) 2 × (job < jobs (now image) (Image.chain (now image) chain .first))) ⌝ }
+    ensures { λ r. ⌜ r ≡ jobWithin (now (image .entry)) chain job ⌝ }
+{
+    let c = chain_at(image, chain);
+    let end = last_end(image, times, c.last, job) as u64 + precision_ticks(image) as u64;
+    let start = first_start(image, times, c.first, job) as u64;
+    end <= chain_limit(image, chain) as u64 + start
+}
+
+// 31: does every job?
+fn chain_in_time(image: &[u8], times: &[u32], chain: u32) -> bool
+    requires { ⌜ Asked (now image) × Timed (now image) (now times) ⌝ }
+    requires { ⌜ (chain < rows (now image) Chains) × Passed (chainQuestions (now image)) 2 ⌝ }
+    ensures { λ r. ⌜ r ≡ chainInTime (now (image .entry)) chain ⌝ }
+{
+    let jobs = jobs_of(image, chain_at(image, chain).first);
+    let mut job: u32 = 0;
+    while job < jobs {
+        if !job_within(image, times, chain, job) {
+            return false;
+        }
+        job += 1;
+    }
+    true
+}
+
+// Does a row pass question 29 to 31?
+fn passes(image: &[u8], times: &[u32], number: u32, row: u32) -> bool
+    requires { ⌜ Asked (now image) × Timed (now image) (now times) ⌝ }
+    requires { ⌜ ((29 ≤ number) × (number ≤ 31)) × (Passed (chainQuestions (now image)) (number - 29) × (row < rows (now image) Chains)) ⌝ }
+    ensures { λ r. ⌜ r ≡ questionAt (chainQuestions (now (image .entry))) (number - 29) .ok row ⌝ }
+{
+    match number {
+        29 => chain_tasks(image, row),
+        30 => chain_path(image, row),
+        _ => chain_in_time(image, times, row),
+    }
+}
+
+// The lowest row that says no.
+fn first_no(image: &[u8], times: &[u32], number: u32) -> Found
+    requires { ⌜ Asked (now image) × Timed (now image) (now times) ⌝ }
+    requires { ⌜ ((29 ≤ number) × (number ≤ 31)) × Passed (chainQuestions (now image)) (number - 29) ⌝ }
+    ensures { λ r. ⌜ r ≡ refusing (questionAt (chainQuestions (now (image .entry))) (number - 29)) ⌝ }
+{
+    let rows = rows_of(image, Table::Chains);
+    let mut row: u32 = 0;
+    while row < rows {
+        if !passes(image, times, number, row) {
+            return Found::At(row);
+        }
+        row += 1;
+    }
+    Found::Nothing
+}
+
+// Questions 29 to 31, in this order.
+pub fn ask(image: &[u8], times: &[u32]) -> Answer
+    requires { ⌜ Asked (now image) × Timed (now image) (now times) ⌝ }
+    ensures { λ r. ⌜ r ≡ answerTo (chainQuestions (now (image .entry))) ⌝ }
+{
+    let mut number: u32 = 29;
+    while number <= 31 {
+        match first_no(image, times, number) {
+            Found::At(row) => {
+                return Answer {
+                    number,
+                    table: shape_of(Table::Chains).number,
+                    row,
+                };
+            }
+            Found::Nothing => {}
+        }
+        number += 1;
+    }
+    plan::accepted()
+}

@@ -1,0 +1,258 @@
+//! Changes aimed at questions 29 to 31.
+
+use super::{any_pair, any_row, any_where, insert, job_span, wide, word};
+use crate::image::{Plan, CHAIN};
+use crate::rng::Rng;
+
+/// Sets a chain, in place of another or as one more row.
+fn put(plan: &mut Plan, chain: [u32; 3], rng: &mut Rng) -> Option<()> {
+    match any_row(&plan.chains, rng) {
+        Some(row) if rng.chance(50) => {
+            plan.chains[row] = chain;
+            Some(())
+        }
+        _ => insert(&mut plan.chains, CHAIN, chain, rng),
+    }
+}
+
+/// The tasks that a path leads to from each task.
+fn reached(plan: &Plan) -> Vec<Vec<bool>> {
+    let tasks = plan.tasks.len();
+    let mut reached = vec![vec![false; tasks]; tasks];
+    let streams = plan.streams.iter().map(|row| [row[0], row[1]]);
+    let buffers = plan.buffers.iter().map(|row| [row[1], row[2]]);
+    let messages: Vec<[usize; 2]> = streams
+        .chain(buffers)
+        .map(|ends| ends.map(|task| task as usize))
+        .collect();
+    loop {
+        let mut is_new = false;
+        for &[from, to] in &messages {
+            let beyond = reached[to].clone();
+            for (task, known) in reached[from].iter_mut().enumerate() {
+                let leads = task == to || beyond[task];
+                is_new |= leads && !*known;
+                *known |= leads;
+            }
+        }
+        if !is_new {
+            return reached;
+        }
+    }
+}
+
+pub fn tasks(plan: &mut Plan, rng: &mut Rng) -> Option<()> {
+    if rng.chance(25) {
+        // Another chain that a later question would refuse.
+        let other = if rng.chance(50) { path } else { limit };
+        other(plan, rng)?;
+    }
+    let rows = plan.tasks.len() as u32;
+    let more = rows + rng.word() % 8;
+    let numbers = [rows, rows, rows + 1, more, 1 << 31, u32::MAX];
+    let beyond = rng.pick(&numbers);
+    let [mut first, mut last, limit] = match any_row(&plan.chains, rng) {
+        Some(row) => plan.chains[row],
+        None => [0, rows.saturating_sub(1), rng.pick(&[0, u32::MAX])],
+    };
+    match rng.below(7) {
+        0 | 1 => first = beyond,
+        2 | 3 => last = beyond,
+        4 => (first, last) = (beyond, beyond),
+        5 => first = last,
+        _ => last = first,
+    }
+    put(plan, [first, last, limit], rng)
+}
+
+pub fn path(plan: &mut Plan, rng: &mut Rng) -> Option<()> {
+    if rng.chance(20) {
+        // Another chain that a later question would refuse.
+        limit(plan, rng)?;
+    }
+    match rng.below(8) {
+        0 => {
+            let row = any_row(&plan.chains, rng)?;
+            plan.chains[row].swap(0, 1);
+            Some(())
+        }
+        1 => cut_buffer(plan, rng),
+        2 => cut_stream(plan, rng),
+        _ => {
+            let (first, last) = apart(plan, rng)?;
+            let limit = rng.pick(&[0, 1, plan.period(first), u32::MAX, u32::MAX]);
+            put(plan, [first, last, limit], rng)
+        }
+    }
+}
+
+/// Two tasks that no path joins, often of one period, and often so that one
+/// of them is an end of many paths.
+fn apart(plan: &Plan, rng: &mut Rng) -> Option<(u32, u32)> {
+    let reached = reached(plan);
+    let tasks = plan.tasks.len();
+    let period = |task: usize| plan.period(task as u32);
+    let apart = |a: usize, b: usize| a != b && !reached[a][b];
+    let alike = |a: usize, b: usize| apart(a, b) && period(a) == period(b);
+    let pair = match rng.below(8) {
+        // Backwards.
+        0 => any_pair(tasks, |a, b| apart(a, b) && reached[b][a], rng),
+        // Two that one task leads to.
+        1 => {
+            let common = |a: usize, b: usize| (0..tasks).any(|c| reached[c][a] && reached[c][b]);
+            any_pair(tasks, |a, b| alike(a, b) && common(a, b), rng)
+        }
+        // Two that lead to one task.
+        2 => {
+            let common = |a: usize, b: usize| (0..tasks).any(|c| reached[a][c] && reached[b][c]);
+            any_pair(tasks, |a, b| alike(a, b) && common(a, b), rng)
+        }
+        // The writer of one row of a buffer and the reader of another.
+        3 | 7 => {
+            let one_buffer = |a: u32, b: u32| plan.node_of_task(a) == plan.node_of_task(b);
+            let one_number = |a: usize, b: usize| {
+                let ([one, writer, _], [other, _, reader]) = (plan.buffers[a], plan.buffers[b]);
+                let apart = apart(writer as usize, reader as usize);
+                one == other && one_buffer(writer, reader) && apart
+            };
+            let rows = any_pair(plan.buffers.len(), one_number, rng);
+            rows.map(|(a, b)| (plan.buffers[a][1] as usize, plan.buffers[b][2] as usize))
+        }
+        // From where most paths begin, or to where most end.
+        4 | 5 => {
+            let leads_to = |task: usize| (0..tasks).filter(|to| reached[task][*to]).count();
+            let led_from = |task: usize| (0..tasks).filter(|from| reached[*from][task]).count();
+            if rng.chance(50) {
+                let first = (0..tasks).max_by_key(|task| leads_to(*task))?;
+                any_where(tasks, |last| alike(first, last), rng).map(|last| (first, last))
+            } else {
+                let last = (0..tasks).max_by_key(|task| led_from(*task))?;
+                any_where(tasks, |first| alike(first, last), rng).map(|first| (first, last))
+            }
+        }
+        _ => any_pair(tasks, alike, rng),
+    };
+    let (first, last) = pair.or_else(|| any_pair(tasks, apart, rng))?;
+    Some((first as u32, last as u32))
+}
+
+/// Whether some chain's path is gone.
+fn is_cut(plan: &Plan) -> bool {
+    let reached = reached(plan);
+    let mut chains = plan.chains.iter();
+    chains.any(|&[first, last, _]| !reached[first as usize][last as usize])
+}
+
+/// Takes out a buffer that a chain needs.
+fn cut_buffer(plan: &mut Plan, rng: &mut Rng) -> Option<()> {
+    let without = |row: usize| {
+        let mut plan = plan.clone();
+        plan.buffers.remove(row);
+        plan
+    };
+    let row = any_where(plan.buffers.len(), |row| is_cut(&without(row)), rng)?;
+    *plan = without(row);
+    Some(())
+}
+
+/// Takes out a stream that a chain needs, with its frames.
+fn cut_stream(plan: &mut Plan, rng: &mut Rng) -> Option<()> {
+    let without = |row: usize| {
+        let mut plan = plan.clone();
+        plan.streams.remove(row);
+        plan.frames.retain(|frame| frame[0] as usize != row);
+        for frame in &mut plan.frames {
+            frame[0] -= u32::from(frame[0] as usize > row);
+        }
+        plan
+    };
+    let row = any_where(plan.streams.len(), |row| is_cut(&without(row)), rng)?;
+    *plan = without(row);
+    Some(())
+}
+
+pub fn limit(plan: &mut Plan, rng: &mut Rng) -> Option<()> {
+    if rng.chance(20) {
+        return a_period_and_no_more(plan, rng);
+    }
+    let (first, last) = joined(plan, rng)?;
+    let period = wide(plan.period(first));
+    let taken = taken(plan, first, last);
+    let precision = wide(plan.precision);
+    let least = taken.iter().copied().max()? + precision;
+    let of_first_job = taken[0] + precision;
+    let limits = if least > period && rng.chance(60) {
+        [0; 8]
+    } else {
+        let without = least - rng.pick(&[precision, 1]);
+        let any = of_first_job + rng.pick(&[0, 0, 1]);
+        [
+            least - 1,
+            least - 1,
+            least,
+            without,
+            of_first_job,
+            any,
+            0,
+            1,
+        ]
+    };
+    let limit = rng.pick(&limits);
+    put(plan, [first, last, word(limit)], rng)
+}
+
+/// A chain with a limit of 0 that is met exactly, or missed by a tick. For that
+/// P becomes what it takes, where the streams are in the way without them.
+fn a_period_and_no_more(plan: &mut Plan, rng: &mut Rng) -> Option<()> {
+    plan.streams.clear();
+    plan.frames.clear();
+    let reached = reached(plan);
+    let joined = |row: &[u32; 3]| reached[row[0] as usize][row[1] as usize];
+    plan.chains.retain(joined);
+    let [_, first, last] = plan.buffers[any_row(&plan.buffers, rng)?];
+    let longest = taken(plan, first, last).into_iter().max()?;
+    let precision = wide(plan.period(first)) - longest + rng.pick(&[0, 1, 1]);
+    plan.precision = word(precision);
+    put(plan, [first, last, 0], rng)?;
+    (0..=10_000).contains(&precision).then_some(())
+}
+
+/// Two tasks that a path joins, often ones for which the limit is telling: of
+/// which a later job takes longest, or that take longer than a period.
+fn joined(plan: &Plan, rng: &mut Rng) -> Option<(u32, u32)> {
+    if let Some(row) = any_row(&plan.chains, rng).filter(|_| rng.chance(40)) {
+        let [first, last, _] = plan.chains[row];
+        return Some((first, last)).filter(|_| reached(plan)[first as usize][last as usize]);
+    }
+    let reached = reached(plan);
+    let tasks = 0..plan.tasks.len();
+    let pairs = tasks.flat_map(|first| (0..plan.tasks.len()).map(move |last| (first, last)));
+    let pairs = pairs.filter(|(first, last)| reached[*first][*last]);
+    let mut pairs: Vec<(u32, u32)> = pairs.map(|(a, b)| (a as u32, b as u32)).collect();
+    rng.shuffle(&mut pairs);
+    let some = pairs.iter().copied().take(40);
+    let telling = match rng.below(3) {
+        0 => some.clone().find(|&(first, last)| {
+            let taken = taken(plan, first, last);
+            taken.iter().any(|ticks| *ticks > taken[0])
+        }),
+        1 => some.clone().find(|&(first, last)| {
+            let longest = taken(plan, first, last).into_iter().max();
+            let period = wide(plan.period(first));
+            longest.is_some_and(|ticks| ticks + wide(plan.precision) > period)
+        }),
+        _ => None,
+    };
+    telling.or(pairs.first().copied())
+}
+
+/// The ticks from the first task's start to the last one's end, job by job.
+fn taken(plan: &Plan, first: u32, last: u32) -> Vec<i64> {
+    let jobs = 0..plan.jobs(first).min(2_048);
+    let ticks = jobs.filter_map(|k| {
+        let (start, _) = job_span(plan, first, k)?;
+        let (_, end) = job_span(plan, last, k)?;
+        Some(end - start)
+    });
+    ticks.collect()
+}

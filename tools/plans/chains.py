@@ -1,0 +1,86 @@
+"""Chains: the path of messages that joins two tasks, and each job's ticks against the limit.
+
+A path goes from a task to the messages it sends or writes, and from a message to the task that reads it.
+"""
+from collections import deque
+from dataclasses import dataclass
+
+from .meaning import Job
+
+
+@dataclass(frozen=True)
+class Leg:
+    """A message as a step of a path: a stream or buffer row, from the task that sends or writes to the one that reads."""
+
+    kind: str
+    row: int
+    source: int
+    target: int
+
+
+@dataclass(frozen=True)
+class Stretch:
+    """A chain's job: the first and the last task's job, the ticks from start to end with P (None without pieces), the limit."""
+
+    chain: int
+    job: int
+    first: Job
+    last: Job
+    ticks: int
+    limit: int
+
+
+def legs(plan):
+    """Every message, streams before buffers."""
+    for row, stream in enumerate(plan.rows["stream"]):
+        yield Leg("stream", row, stream.sender, stream.receiver)
+    for row, buffer in enumerate(plan.rows["buffer"]):
+        yield Leg("buffer", row, buffer.writer, buffer.reader)
+
+
+def path(plan, chain):
+    """The legs from a chain's first task to its last, as few as can be, or None where no path joins them."""
+    row, known = plan.rows["chain"][chain], list(legs(plan))
+    reached, ways = {row.first}, deque([(row.first, [])])
+    while ways:
+        task, way = ways.popleft()
+        for leg in known:
+            if leg.source == task and leg.target not in reached:
+                reached.add(leg.target)
+                ways.append((leg.target, [*way, leg]))
+                if leg.target == row.last:
+                    return ways[-1][1]
+    return None
+
+
+def limit(plan, chain):
+    """The limit, or what a limit of 0 stands for."""
+    row = plan.rows["chain"][chain]
+    first = plan.row("task", row.first)
+    return row.limit or (first.period if first else 0)
+
+
+def stretches(plan, meaning, chain):
+    """The chain's jobs: those in which its first or its last task has pieces."""
+    row = plan.rows["chain"][chain]
+    numbers = meaning.jobs_with_pieces[row.first] | meaning.jobs_with_pieces[row.last]
+    return [_stretch(plan, meaning, chain, row, number) for number in sorted(numbers)]
+
+
+def _stretch(plan, meaning, chain, row, number):
+    first, last = meaning.job(row.first, number), meaning.job(row.last, number)
+    ticks = None
+    if first and last and first.pieces and last.pieces:
+        ticks = last.last - first.first + plan.precision
+    return Stretch(chain, number, first, last, ticks, limit(plan, chain))
+
+
+def trouble_of(plan, chain):
+    """What questions 29 and 30 would have against a chain, in words, or nothing."""
+    row = plan.rows["chain"][chain]
+    missing = [task for task in (row.first, row.last) if not plan.row("task", task)]
+    if missing:
+        return f"no task {missing[0]}"
+    if row.first == row.last:
+        return "first and last are one task"
+    return "" if path(plan, chain) else "no path"
