@@ -2,7 +2,8 @@
 //!
 //! libFuzzer changes bytes. Most such changes of an image end at questions 2
 //! and 3, so three times in five rows are changed instead, where the image
-//! has any, and it is laid out anew.
+//! has any, and it is laid out anew, mostly with its rows in order: else
+//! question 32 would refuse what any change of a start leaves.
 
 use peer::image::Plan;
 use peer::{check, mutate, Rng};
@@ -44,6 +45,9 @@ fn edited(image: &[u8], rng: &mut Rng) -> Option<Vec<u8>> {
     }
     for _ in 0..=rng.below(3) {
         edit_plan(&mut plan, rng);
+    }
+    if rng.chance(90) {
+        plan.put_in_order();
     }
     Some(plan.encode())
 }

@@ -1,4 +1,4 @@
-//! Questions 1 to 24 and 29 to 31, in the papers' order.
+//! Questions 1 to 24 and 29 to 32, in the papers' order: 32 comes after 5.
 //!
 //! Each question may rely on a yes to those before it. Sums and products are
 //! taken in 64 bits, where no words of 32 bits can make them wrap.
@@ -27,6 +27,7 @@ pub fn examine(image: &[u8]) -> Result<Plan, Answer> {
     ask_layout(image)?;
     let plan = Plan::decode(image);
     ask_references(&plan)?;
+    ask_order(&plan)?;
     ask_ranges(&plan)?;
     let charges = charges(&plan);
     ask_windows(&plan, &charges)?;
@@ -58,6 +59,17 @@ fn ask<R>(number: u32, table: u32, rows: &[R], yes: impl Fn(&R) -> bool) -> Resu
         None => Ok(()),
         Some(row) => Err(Answer::at(number, table, row as u32)),
     }
+}
+
+/// The interval of each row, by its place, start and length.
+fn intervals<R>(rows: &[R], taken: impl Fn(&R) -> (u32, u32, u32)) -> Vec<Interval> {
+    let interval = |(row, (place, start, length))| Interval {
+        place,
+        start,
+        end: start + length,
+        row,
+    };
+    (0..).zip(rows.iter().map(taken)).map(interval).collect()
 }
 
 /// Asks whether intervals of a table never overlap.
@@ -113,6 +125,14 @@ fn ask_references(plan: &Plan) -> Result<(), Answer> {
     })
 }
 
+/// Question 32.
+fn ask_order(plan: &Plan) -> Result<(), Answer> {
+    match plan.out_of_order() {
+        None => Ok(()),
+        Some((table, row)) => Err(Answer::at(32, table, row)),
+    }
+}
+
 /// Question 6.
 fn ask_ranges(plan: &Plan) -> Result<(), Answer> {
     let cycle = plan.cycle;
@@ -147,13 +167,9 @@ fn ask_windows(plan: &Plan, charges: &[u32]) -> Result<(), Answer> {
     ask(7, WINDOW, &charged, |&(&[_, start, length], &charge)| {
         length > charge && wide(start) + wide(length) <= wide(plan.cycle)
     })?;
-    let on_cores = |(row, &[vcpu, start, length]): (usize, &[u32; 3])| Interval {
-        place: plan.core_of_vcpu(vcpu),
-        start,
-        end: start + length,
-        row: row as u32,
-    };
-    let windows: Vec<_> = plan.windows.iter().enumerate().map(on_cores).collect();
+    let windows = intervals(&plan.windows, |&[vcpu, start, length]| {
+        (plan.core_of_vcpu(vcpu), start, length)
+    });
     ask_apart(8, WINDOW, &windows)
 }
 
@@ -171,13 +187,9 @@ fn ask_pieces(plan: &Plan, charges: &[u32]) -> Result<(), Answer> {
     ask(11, PIECE, &plan.pieces, |&[task, _, start, length]| {
         windows.hold(plan.tasks[task as usize][0], start, start + length)
     })?;
-    let on_cores = |(row, &[task, _, start, length]): (usize, &[u32; 4])| Interval {
-        place: plan.core_of_task(task),
-        start,
-        end: start + length,
-        row: row as u32,
-    };
-    let pieces: Vec<_> = plan.pieces.iter().enumerate().map(on_cores).collect();
+    let pieces = intervals(&plan.pieces, |&[task, _, start, length]| {
+        (plan.core_of_task(task), start, length)
+    });
     ask_apart(12, PIECE, &pieces)
 }
 
@@ -348,13 +360,10 @@ impl Network<'_> {
     }
 
     fn frames_on_links(&self) -> Vec<Interval> {
-        let on_link = |(row, &[stream, _, _, link, start]): (usize, &[u32; 5])| Interval {
-            place: link,
-            start,
-            end: start + self.plan.frame_ticks(stream, link),
-            row: row as u32,
-        };
-        self.plan.frames.iter().enumerate().map(on_link).collect()
+        let plan = self.plan;
+        intervals(&plan.frames, |&[stream, _, _, link, start]| {
+            (link, start, plan.frame_ticks(stream, link))
+        })
     }
 
     /// Question 20 for one job.

@@ -2,15 +2,29 @@
 
 use std::fmt;
 
-/// The questions that are asked of an image: 25 to 28 are asked of lanes, lent
-/// words and states.
+/// The questions that are asked of an image, in the order in which they are:
+/// 25 to 28 are asked of lanes, lent words and states.
 pub fn questions() -> impl Iterator<Item = u32> {
-    (1..=24).chain(29..=31)
+    (1..=5).chain([32]).chain(6..=24).chain(29..=31)
+}
+
+/// Whether a number is that of a question of images which is asked before
+/// another one.
+pub fn asked_before(number: u32, other: u32) -> bool {
+    questions()
+        .take_while(|asked| *asked != other)
+        .any(|asked| asked == number)
 }
 
 /// A count for 0, accepted, and for each question of an image.
-#[derive(Clone, Debug, Default)]
-pub struct Histogram([u64; 32]);
+#[derive(Clone, Debug)]
+pub struct Histogram([u64; 33]);
+
+impl Default for Histogram {
+    fn default() -> Histogram {
+        Histogram([0; 33])
+    }
+}
 
 impl Histogram {
     /// Counts one image by the number of its answer.

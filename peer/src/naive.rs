@@ -31,10 +31,10 @@ enum No {
     Row(usize, Number),
 }
 
-/// Questions 1 to 24, then 29 to 31.
+/// Questions 1 to 5, then 32, then 6 to 24, then 29 to 31.
 pub fn check(image: &[u8]) -> Answer {
     let asked = Image { bytes: image };
-    for number in (1..=24).chain(29..=31) {
+    for number in (1..=5).chain(32..=32).chain(6..=24).chain(29..=31) {
         match asked.question(number) {
             None => {}
             Some(No::Plain) => return Answer::plain(number),
@@ -362,6 +362,11 @@ impl Image<'_> {
             29 => self.each(CHAIN, |chain| self.tasks_exist_and_differ(chain)),
             30 => self.each(CHAIN, |chain| self.path_joins(chain)),
             31 => self.each(CHAIN, |chain| self.chain_in_time(chain)),
+            32 => [(WINDOW, 1), (PIECE, 2), (FRAME, 4)]
+                .into_iter()
+                .find_map(|(table, start)| {
+                    self.each(table, |row| row == 0 || self.rises(table, start, row))
+                }),
             _ => None,
         }
     }
@@ -430,6 +435,24 @@ impl Image<'_> {
             BUFFER => self.buffer_number(row) <= 63 && self.writer(row) != self.reader(row),
             _ => true,
         }
+    }
+
+    /// Whether a row is not below the one before it: the start decides, else
+    /// the first word, else the second, and so on.
+    fn rises(&self, table: usize, start: Number, row: Number) -> bool {
+        let mut columns = vec![start];
+        columns.extend(0..WORDS_OF_A_ROW[table]);
+        for column in columns {
+            let before = self.cell(table, row - 1, column);
+            let own = self.cell(table, row, column);
+            if own > before {
+                return true;
+            }
+            if own < before {
+                return false;
+            }
+        }
+        true
     }
 
     fn window_fits(&self, window: Number) -> bool {

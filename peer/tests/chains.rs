@@ -1,109 +1,70 @@
 //! Wrong readings of chains: the mutants show each of them. And so many paths
 //! that none can follow each.
 
+#[macro_use]
+mod ways;
+
 use std::collections::{BTreeMap, BTreeSet};
 use std::time::{Duration, Instant};
 
 use peer::generate::{diamond, small_rich, tiny};
 use peer::image::Plan;
 use peer::mutate::{aim, mutant, mutate};
-use peer::{check, naive, Answer, Rng};
+use peer::{asked_before, check, naive, Answer, Rng};
 
-/// Ways to read questions 29 to 31.
-#[derive(Clone, Copy, Debug, PartialEq)]
-enum Reading {
-    Right,
-    // 29
-    OneMoreTask,
-    FirstMayBeMissing,
-    LastMayBeMissing,
-    MayBeEqual,
-    RowByRow,
-    // 30
-    NoPathAsked,
-    EqualPeriodsSuffice,
-    StreamsOnly,
-    BuffersOnly,
-    StreamsThenBuffers,
-    BuffersThenStreams,
-    KindsAlternate,
-    Backwards,
-    EitherWay,
-    OneMessage,
-    TwoMessagesAtMost,
-    FourMessagesAtMost,
-    LowestMessageOnly,
-    HighestMessageOnly,
-    ByBufferNumber,
-    ByVcpu,
-    NotBackToANode,
-    RisingRowsOnly,
-    // 31
-    NoLimitAsked,
-    WithoutP,
-    PTwice,
-    PBetweenNodesOnly,
-    OnlyJob0,
-    OnlyTheLastJob,
-    OverTheWholeCycle,
-    ZeroIsNoLimit,
-    ZeroIsZero,
-    ZeroIsH,
-    ZeroIsDeadline,
-    BelowTheLimit,
-    FromTheFirstEnd,
-    FromTheRelease,
-    ToTheLastStart,
-    LimitsWrap,
-    LimitsAreSigned,
-    LimitsAsForStreams,
+ways! {
+    /// Ways to read questions 29 to 31.
+    enum Reading { Right }
+
+    const WRONG: 41 = {
+        // 29
+        OneMoreTask,
+        FirstMayBeMissing,
+        LastMayBeMissing,
+        MayBeEqual,
+        RowByRow,
+        // 30
+        NoPathAsked,
+        EqualPeriodsSuffice,
+        StreamsOnly,
+        BuffersOnly,
+        StreamsThenBuffers,
+        BuffersThenStreams,
+        KindsAlternate,
+        Backwards,
+        EitherWay,
+        OneMessage,
+        TwoMessagesAtMost,
+        FourMessagesAtMost,
+        LowestMessageOnly,
+        HighestMessageOnly,
+        ByBufferNumber,
+        ByVcpu,
+        NotBackToANode,
+        RisingRowsOnly,
+        // 31
+        NoLimitAsked,
+        WithoutP,
+        PTwice,
+        PBetweenNodesOnly,
+        OnlyJob0,
+        OnlyTheLastJob,
+        OverTheWholeCycle,
+        ZeroIsNoLimit,
+        ZeroIsZero,
+        ZeroIsH,
+        ZeroIsDeadline,
+        BelowTheLimit,
+        FromTheFirstEnd,
+        FromTheRelease,
+        ToTheLastStart,
+        LimitsWrap,
+        LimitsAreSigned,
+        LimitsAsForStreams,
+    };
 }
 
 use Reading::*;
-
-const WRONG: [Reading; 41] = [
-    OneMoreTask,
-    FirstMayBeMissing,
-    LastMayBeMissing,
-    MayBeEqual,
-    RowByRow,
-    NoPathAsked,
-    EqualPeriodsSuffice,
-    StreamsOnly,
-    BuffersOnly,
-    StreamsThenBuffers,
-    BuffersThenStreams,
-    KindsAlternate,
-    Backwards,
-    EitherWay,
-    OneMessage,
-    TwoMessagesAtMost,
-    FourMessagesAtMost,
-    LowestMessageOnly,
-    HighestMessageOnly,
-    ByBufferNumber,
-    ByVcpu,
-    NotBackToANode,
-    RisingRowsOnly,
-    NoLimitAsked,
-    WithoutP,
-    PTwice,
-    PBetweenNodesOnly,
-    OnlyJob0,
-    OnlyTheLastJob,
-    OverTheWholeCycle,
-    ZeroIsNoLimit,
-    ZeroIsZero,
-    ZeroIsH,
-    ZeroIsDeadline,
-    BelowTheLimit,
-    FromTheFirstEnd,
-    FromTheRelease,
-    ToTheLastStart,
-    LimitsWrap,
-    LimitsAreSigned,
-    LimitsAsForStreams,
-];
 
 #[derive(Clone, Copy, Debug, PartialEq, Eq, PartialOrd, Ord)]
 enum Kind {
@@ -332,7 +293,7 @@ fn mutants_show_every_wrong_reading() {
             _ => mutant(&mut rng),
         };
         let right = check(&image);
-        if (1..29).contains(&right.number) {
+        if asked_before(right.number, 29) {
             continue;
         }
         let plan = Plan::decode(&image);

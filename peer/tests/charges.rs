@@ -1,53 +1,52 @@
 //! Wrong readings of what a window pays for its VCPU switch: the mutants show
 //! each of them.
 
+#[macro_use]
+mod ways;
+
 use peer::generate::kept_core;
 use peer::image::Plan;
 use peer::mutate::{mutant, mutate};
-use peer::{check, Answer, Rng};
+use peer::{asked_before, check, Answer, Rng};
 
-/// Ways to read it.
-#[derive(Clone, Copy, Debug, PartialEq)]
-enum Reading {
-    Right,
-    AllPay,
-    AllPayInSeven,
-    AllPayInEleven,
-    NonePayInSeven,
-    NonePayInEleven,
-    AnyVcpuOfTheCore,
-    AnyWindow,
-    OnlyLowerRows,
-    OnlyHigherRows,
-    Tick0MayContinue,
-    Tick0ContinuesFromTheEnd,
-    EndsWrap,
-    EmptyOnesDoNotCount,
-    NoOneContinuesTwice,
-    OverlappingOnesContinue,
-    PiecesMaySpan,
+ways! {
+    /// Ways to read it.
+    enum Reading { Right }
+
+    const WRONG: 17 = {
+        AllPay,
+        AllPayInSeven,
+        AllPayInEleven,
+        NonePayInSeven,
+        NonePayInEleven,
+        AnyVcpuOfTheCore,
+        AnyWindow,
+        OnlyHigherRows,
+        Tick0ContinuesFromTheEnd,
+        EndsWrap,
+        NoOneContinuesTwice,
+        OverlappingOnesContinue,
+        PiecesMaySpan,
+        // Now that rows are in order
+        OnlyTheRowBefore,
+        OnlyTheRowBeforeOfTheCore,
+        OnlyTheRowBeforeOfTheVcpu,
+        OnlyTheWindowStartedLast,
+    };
+
+    /// Readings that are not wrong, since rows are in order. What ends where
+    /// a window begins is in a row before it, and an empty one is refused by 7
+    /// before it could matter; by 8 only the last window to start can hold a
+    /// piece.
+    const NOT_WRONG: 4 = {
+        OnlyLowerRows,
+        Tick0MayContinue,
+        EmptyOnesDoNotCount,
+        OnlyTheWindowStartedLastOnTheCore,
+    };
 }
 
 use Reading::*;
-
-const WRONG: [Reading; 16] = [
-    AllPay,
-    AllPayInSeven,
-    AllPayInEleven,
-    NonePayInSeven,
-    NonePayInEleven,
-    AnyVcpuOfTheCore,
-    AnyWindow,
-    OnlyLowerRows,
-    OnlyHigherRows,
-    Tick0MayContinue,
-    Tick0ContinuesFromTheEnd,
-    EndsWrap,
-    EmptyOnesDoNotCount,
-    NoOneContinuesTwice,
-    OverlappingOnesContinue,
-    PiecesMaySpan,
-];
 
 impl Reading {
     /// Whether the window of a row begins where the one of another ends.
@@ -73,6 +72,15 @@ impl Reading {
             OnlyLowerRows => other < row,
             OnlyHigherRows => other > row,
             NoOneContinuesTwice => !(0..other).any(|third| Right.adjoins(plan, other, third)),
+            OnlyTheRowBefore => other + 1 == row,
+            OnlyTheRowBeforeOfTheCore => {
+                let on_core = |third: &usize| core(plan.windows[*third][0]) == core(vcpu);
+                (0..row).rfind(on_core) == Some(other)
+            }
+            OnlyTheRowBeforeOfTheVcpu => {
+                let owned = |third: &usize| plan.windows[*third][0] == vcpu;
+                (0..row).rfind(owned) == Some(other)
+            }
             _ => true,
         };
         other != row && owned && meets && counts
@@ -124,7 +132,18 @@ impl Reading {
                     opens + self.charge(plan, row, 11) <= start
                 }
             };
-            !(0..plan.windows.len()).any(holds)
+            let core = |row: usize| plan.core_of_vcpu(plan.windows[row][0]);
+            let started = |row: &usize| u64::from(plan.windows[*row][1]) <= start;
+            let rows = 0..plan.windows.len();
+            match self {
+                OnlyTheWindowStartedLast => !rows.rev().find(started).is_some_and(holds),
+                OnlyTheWindowStartedLastOnTheCore => {
+                    let on_core = |row: &usize| core(*row) == plan.core_of_vcpu(vcpu);
+                    let last = rows.rev().find(|row| started(row) && on_core(row));
+                    !last.is_some_and(holds)
+                }
+                _ => !rows.into_iter().any(holds),
+            }
         })
     }
 
@@ -154,7 +173,7 @@ fn mutants_show_every_wrong_reading() {
             mutant(&mut rng)
         };
         let right = check(&image);
-        if (1..7).contains(&right.number) {
+        if asked_before(right.number, 7) {
             continue;
         }
         let plan = Plan::decode(&image);
@@ -162,6 +181,9 @@ fn mutants_show_every_wrong_reading() {
         assert_eq!(Right.answer(&plan, right), first, "{plan:?}");
         for (count, reading) in shown.iter_mut().zip(WRONG) {
             *count += u32::from(reading.answer(&plan, right) != first);
+        }
+        for reading in NOT_WRONG {
+            assert_eq!(reading.answer(&plan, right), first, "{reading:?} {plan:?}");
         }
     }
     for (count, reading) in shown.into_iter().zip(WRONG) {

@@ -18,7 +18,7 @@ fn compare(image: &[u8]) -> Answer {
 
 #[test]
 fn mutants_of_all_questions() {
-    let mut refusals = [0; 32];
+    let mut refusals = [0; 33];
     for case in 0..6_000 {
         let image = mutant(&mut Rng::for_case(10, case));
         refusals[compare(&image).number as usize] += 1;
@@ -101,11 +101,22 @@ fn rough(rng: &mut Rng) -> Plan {
     }
 }
 
+/// The plan, its rows in order but in one case of ten.
+fn mostly_in_order(plan: Plan, rng: &mut Rng) -> Plan {
+    if rng.chance(90) {
+        plan.in_order()
+    } else {
+        plan
+    }
+}
+
 #[test]
 fn rough_plans() {
-    let mut refusals = [0; 32];
+    let mut refusals = [0; 33];
     for case in 0..30_000 {
-        let plan = rough(&mut Rng::for_case(12, case));
+        let mut rng = Rng::for_case(12, case);
+        let plan = rough(&mut rng);
+        let plan = mostly_in_order(plan, &mut rng);
         refusals[compare(&plan.encode()).number as usize] += 1;
     }
     println!("{refusals:?}");
@@ -114,7 +125,7 @@ fn rough_plans() {
 /// Accepted plans whose words are shaken a little, most of them in starts.
 #[test]
 fn shaken_plans() {
-    let mut refusals = [0; 32];
+    let mut refusals = [0; 33];
     for case in 0..8_000 {
         let mut rng = Rng::for_case(13, case);
         let mut plan = match rng.below(10) {
@@ -157,6 +168,7 @@ fn shaken_plans() {
                 }),
             }
         }
+        let plan = mostly_in_order(plan, &mut rng);
         refusals[compare(&plan.encode()).number as usize] += 1;
     }
     println!("{refusals:?}");
@@ -166,7 +178,7 @@ fn shaken_plans() {
 /// with buffers between any tasks.
 #[test]
 fn rough_messages() {
-    let mut refusals = [0; 32];
+    let mut refusals = [0; 33];
     for case in 0..10_000 {
         let mut rng = Rng::for_case(18, case);
         let mut plan = small_rich(&mut rng);
@@ -202,6 +214,7 @@ fn rough_messages() {
             plan.streams.clear();
             plan.frames.clear();
         }
+        let plan = mostly_in_order(plan, &mut rng);
         refusals[compare(&plan.encode()).number as usize] += 1;
     }
     println!("{refusals:?}");

@@ -34,6 +34,33 @@ fn every_shape_is_accepted() {
     all_accepted(10, full);
 }
 
+/// Rows with one start are among them, in each table, and rows whose numbers
+/// do not rise while their starts do.
+#[test]
+fn rows_with_one_start_are_met() {
+    fn ties<const W: usize>(rows: &[[u32; W]], start: usize) -> bool {
+        rows.windows(2).any(|two| two[0][start] == two[1][start])
+    }
+    fn falls<const W: usize>(rows: &[[u32; W]]) -> bool {
+        rows.windows(2).any(|two| two[0][0] > two[1][0])
+    }
+    let features: [(&str, Feature); 6] = [
+        ("windows with one start", |plan| ties(&plan.windows, 1)),
+        ("pieces with one start", |plan| ties(&plan.pieces, 2)),
+        ("frames with one start", |plan| ties(&plan.frames, 4)),
+        ("a window of a lower VCPU behind", |plan| {
+            falls(&plan.windows)
+        }),
+        ("a piece of a lower task behind", |plan| falls(&plan.pieces)),
+        ("a frame of a lower stream behind", |plan| {
+            falls(&plan.frames)
+        }),
+    ];
+    all_met(accepted, 60, &features);
+    all_met(rich, 60, &features);
+    all_met(tiny, 60, &features);
+}
+
 #[test]
 fn full_plans_have_every_row() {
     let plan = full(&mut Rng::new(3));

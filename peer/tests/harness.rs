@@ -1,6 +1,9 @@
 //! The harness finds no difference between this implementation and its naive
 //! twin, and finds each of many faults.
 
+#[macro_use]
+mod ways;
+
 use peer::boundary::{Boundary, Peer, STATE};
 use peer::harness::{run, Settings};
 use peer::naive::Naive;
@@ -31,58 +34,36 @@ fn large_plans_run_too() {
     run(&settings, &Peer, &Peer).unwrap_or_else(|difference| panic!("{difference}"));
 }
 
-/// Ways to be wrong.
-#[derive(Clone, Copy, Debug, PartialEq)]
-enum Fault {
-    AcceptsAll,
-    NeverAsks(u64),
-    NamesRowZero,
-    NamesNoTable,
-    BuildsOneWordMore,
-    BuildsIntoTooFew,
-    BuildsPartOfAWord,
-    BuildTakesLastLanesOff,
-    BuildWritesBefore,
-    AsksLaneFirst,
-    StartTakesAnyLength,
-    StartKeepsKind,
-    StartAtTickOne,
-    StepTakesLongStates,
-    StepHasNoEnd,
-    StepEndsEarly,
-    StepWritesWhenRefused,
-    StepAllMovesSome,
-    StepAllGivesHighest,
-    StepAllSkipsShortRecord,
-    StepAllRefusesNone,
-    CountsPartOfAWord,
+ways! {
+    /// Ways to be wrong.
+    enum Fault { NeverAsks(u64) }
+
+    const FAULTS: 21 = {
+        AcceptsAll,
+        NamesRowZero,
+        NamesNoTable,
+        BuildsOneWordMore,
+        BuildsIntoTooFew,
+        BuildsPartOfAWord,
+        BuildTakesLastLanesOff,
+        BuildWritesBefore,
+        AsksLaneFirst,
+        StartTakesAnyLength,
+        StartKeepsKind,
+        StartAtTickOne,
+        StepTakesLongStates,
+        StepHasNoEnd,
+        StepEndsEarly,
+        StepWritesWhenRefused,
+        StepAllMovesSome,
+        StepAllGivesHighest,
+        StepAllSkipsShortRecord,
+        StepAllRefusesNone,
+        CountsPartOfAWord,
+    };
 }
 
 use Fault::*;
-
-const FAULTS: [Fault; 21] = [
-    AcceptsAll,
-    NamesRowZero,
-    NamesNoTable,
-    BuildsOneWordMore,
-    BuildsIntoTooFew,
-    BuildsPartOfAWord,
-    BuildTakesLastLanesOff,
-    BuildWritesBefore,
-    AsksLaneFirst,
-    StartTakesAnyLength,
-    StartKeepsKind,
-    StartAtTickOne,
-    StepTakesLongStates,
-    StepHasNoEnd,
-    StepEndsEarly,
-    StepWritesWhenRefused,
-    StepAllMovesSome,
-    StepAllGivesHighest,
-    StepAllSkipsShortRecord,
-    StepAllRefusesNone,
-    CountsPartOfAWord,
-];
 
 /// This implementation with one fault.
 struct Faulty(Fault);

@@ -1,54 +1,40 @@
 //! Wrong readings of how many ticks a frame takes: the mutants show each of
 //! them.
 
+#[macro_use]
+mod ways;
+
 use peer::image::Plan;
 use peer::mutate::mutant;
-use peer::{check, Answer, Rng};
+use peer::{asked_before, check, Answer, Rng};
 
 type Frame = [u32; 5];
 
-/// Ways to read it.
-#[derive(Clone, Copy, Debug, PartialEq)]
-enum Reading {
-    Right,
-    RoundedDown,
-    RoundedToNearest,
-    OneMoreAlways,
-    OneAtLeastElseDown,
-    BareBits,
-    UntaggedBits,
-    WithoutPreambleAndGap,
-    BytesForBits,
-    RoundedByBytes,
-    PreviousRate,
-    NextRate,
-    FirstRate,
-    LastRate,
-    SlowestRate,
-    FastestRate,
-    FirstLinkRow,
+ways! {
+    /// Ways to read it.
+    enum Reading { Right }
+
+    const WRONG: 16 = {
+        RoundedDown,
+        RoundedToNearest,
+        OneMoreAlways,
+        OneAtLeastElseDown,
+        BareBits,
+        UntaggedBits,
+        WithoutPreambleAndGap,
+        BytesForBits,
+        RoundedByBytes,
+        PreviousRate,
+        NextRate,
+        FirstRate,
+        LastRate,
+        SlowestRate,
+        FastestRate,
+        FirstLinkRow,
+    };
 }
 
 use Reading::*;
-
-const WRONG: [Reading; 16] = [
-    RoundedDown,
-    RoundedToNearest,
-    OneMoreAlways,
-    OneAtLeastElseDown,
-    BareBits,
-    UntaggedBits,
-    WithoutPreambleAndGap,
-    BytesForBits,
-    RoundedByBytes,
-    PreviousRate,
-    NextRate,
-    FirstRate,
-    LastRate,
-    SlowestRate,
-    FastestRate,
-    FirstLinkRow,
-];
 
 /// A plan in which questions 1 to 14 are answered yes.
 struct Asked<'a> {
@@ -173,7 +159,7 @@ fn mutants_show_every_wrong_reading() {
     for case in 0..12_000 {
         let image = mutant(&mut Rng::for_case(23, case));
         let right = check(&image);
-        if (1..15).contains(&right.number) {
+        if asked_before(right.number, 15) {
             continue;
         }
         let plan = Plan::decode(&image);

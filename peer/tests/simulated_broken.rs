@@ -2,7 +2,7 @@
 
 mod cases;
 
-use cases::{case_b, case_chain, two_rows};
+use cases::{case_b, case_chain, two_hops, two_rows};
 use peer::generate::{kept_core, shared_buffer, tiny};
 use peer::simulate::{
     choices, edges, only_one_clock, survey, unchecked, Claim, Clocks, Dial, Edge, Noticed, Report,
@@ -144,11 +144,9 @@ fn violations_show_at_once() {
     assert_eq!(fails_after(&short, Claim::Budget), 20);
     for edge in edges_of(24, 60, shared_buffer) {
         let Edge { kept, broken, .. } = edge;
-        let moved = |row: usize| kept.pieces[row][2].abs_diff(broken.pieces[row][2]) > 0;
-        let row = (0..broken.pieces.len())
-            .find(|row| moved(*row))
-            .expect("a piece has moved");
-        let [task, k, start, length] = broken.pieces[row];
+        let mut pieces = broken.pieces.iter();
+        let moved = pieces.find(|piece| !kept.pieces.contains(piece));
+        let [task, k, start, length] = *moved.expect("a piece has moved");
         let writes = broken.buffers.iter().any(|buffer| buffer[1] == task);
         // A write begins a tick too soon, or its neighbour does when a read
         // ends a tick late: either way one tick before a read is over.
@@ -182,6 +180,7 @@ fn holds_reach_as_far_as_shown() {
     ] {
         let mut plan = two_rows();
         plan.pieces[2][2] = start;
+        plan.put_in_order();
         assert_eq!(answer(&plan), 24);
         let violation = &found(&plan, 0).violations[&Claim::Hold];
         assert_eq!((violation.after, violation.what.as_str()), (after, text));
@@ -191,10 +190,11 @@ fn holds_reach_as_far_as_shown() {
 type Change = fn(&mut Plan);
 
 /// What 'Runs' does not claim: masks, nodes, routes, that a read starts when
-/// its write has ended, and that messages join a chain's tasks.
+/// its write has ended, that messages join a chain's tasks, and the order of
+/// rows.
 #[test]
 fn questions_that_no_run_shows() {
-    let unseen: [(u32, Plan, Change); 8] = [
+    let unseen: [(u32, Plan, Change); 11] = [
         (9, case_b(), |plan| plan.tasks[0][1] = 2),
         (14, case_b(), |plan| plan.cores[1][0] = 0),
         (17, case_b(), |plan| plan.links[0][1] = 2),
@@ -209,6 +209,9 @@ fn questions_that_no_run_shows() {
         (29, case_chain(), |plan| plan.chains[0] = [0, 0, 17]),
         (29, case_chain(), |plan| plan.chains[0] = [0, 3, 17]),
         (30, case_chain(), |plan| plan.chains[0] = [2, 0, 17]),
+        (32, case_chain(), |plan| plan.windows.reverse()),
+        (32, case_chain(), |plan| plan.pieces.reverse()),
+        (32, two_hops([704, 88], 11), |plan| plan.frames.reverse()),
     ];
     for (question, mut plan, change) in unseen {
         change(&mut plan);
@@ -260,6 +263,7 @@ fn cut_window(plan: &Plan, piece: usize) -> Option<Plan> {
     plan.windows[window] = [vcpu, opens, cut - opens];
     plan.windows
         .push([vcpu, cut, (opens + open).checked_sub(cut)?]);
+    plan.put_in_order();
     (cut < start + length && check(&plan.encode()).number == 11).then_some(plan)
 }
 

@@ -2,9 +2,12 @@
 import subprocess
 from dataclasses import dataclass
 
+from .ordering import fall
 from .questions import wording
-from .schema import kind_of
+from .schema import BY_KIND, kind_of
 from .troubles import trouble
+
+ORDER = 32  # the question of the rows' order
 
 
 @dataclass(frozen=True)
@@ -47,6 +50,31 @@ def explained(plan, answer):
     return f"refused ({answer}){row_title(plan, answer)}; no to question {answer.number}: {wording(answer.number)}"
 
 
+def fall_of(plan, answer):
+    """How the row that question 32 names is below its predecessor; None for other answers."""
+    return fall(plan, answer.kind, answer.row) if answer.number == ORDER else None
+
+
+def reason(plan, answer):
+    """For question 32, the words that decide and where the row belongs; nothing for other answers."""
+    found = fall_of(plan, answer)
+    if not found:
+        return ""
+    row, last, before = (plan.name(answer.kind, number) for number in (answer.row, answer.row - 1, found.before))
+    equal = ", ".join(f"{field} {_word(plan, answer.kind, field, answer.row)}" for field in found.equal)
+    less, more = (_word(plan, answer.kind, found.decides, number) for number in (answer.row, answer.row - 1))
+    words = f"equal {equal}; " if equal else ""
+    return f"{row} is below {last}: {words}{found.decides} {less} is below {more}. It belongs before {before}."
+
+
+def _word(plan, kind, field, row):
+    """A word of a row as a number, since numbers are compared, with the name that stands for it in texts."""
+    (column,) = [column for column in BY_KIND[kind].columns if field in column.fields]
+    number, table = getattr(plan.rows[kind][row], field), column.names_rows_of
+    given = plan.names.given[table] if table else []
+    return f"{number} ({given[number]})" if number < len(given) and given[number] else str(number)
+
+
 def row_title(plan, answer):
     """The row that an answer names, or nothing."""
     if not answer.kind:
@@ -58,3 +86,9 @@ def row_title(plan, answer):
 def lines_of(plan, answer):
     """The lines of text that the row which an answer names comes from."""
     return plan.lines(answer.kind, answer.row) if answer.kind else []
+
+
+def line_before(plan, answer):
+    """The line before which the line of a row out of order belongs, or None."""
+    found = fall_of(plan, answer)
+    return next(iter(plan.lines(answer.kind, found.before)), None) if found else None

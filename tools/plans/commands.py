@@ -4,13 +4,12 @@ import os
 import sys
 from pathlib import Path
 
-from .answers import ask, explained, lines_of, parse
-from .files import as_text, is_text, load, load_image, read_bytes, write_whole
+from .answers import ORDER, ask, explained, line_before, lines_of, parse, reason
+from .files import is_text, load, plan_in, read_bytes, write_whole
 from .image import encode
 from .listing import listing
 from .ordering import in_order
 from .picture.drawing import View, near, picture
-from .reading import read_text
 from .troubles import Trouble, meant, trouble
 from .writing import write_text
 
@@ -35,19 +34,22 @@ def parser():
     top = argparse.ArgumentParser(prog="plan", description="Plans as text, image, listing and picture.")
     commands = top.add_subparsers(required=True, metavar="COMMAND")
     command = _command(commands, "image", run_image, "write the image of a text")
-    command.add_argument("plan", help="text")
+    command.add_argument("plan", help="text; with --in-order also an image")
     command.add_argument("out", help="image to write, or -")
+    _takes_order(command)
     command = _command(commands, "text", run_text, "print a plan as text")
     command.add_argument("plan", help="image or text")
-    command.add_argument("--in-order", action="store_true", help="with windows, pieces and frames by start")
+    _takes_order(command)
     command = _command(commands, "list", run_list, "print a plan's rows and what follows from them")
     command.add_argument("plan", help="image or text")
     command = _command(commands, "check", run_check, "ask the checker, and print its answer in words")
     command.add_argument("plan", help="image or text")
+    _takes_order(command)
     _asks_checker(command, default=CHECKER)
     command = _command(commands, "picture", run_picture, "draw a plan as SVG")
     command.add_argument("plan", help="image or text")
     command.add_argument("out", help="SVG to write, or -")
+    _takes_order(command)
     command.add_argument("--answer", type=an_answer, metavar="'N T R'", help="the checker's line, as printed")
     _asks_checker(command, default=None)
     command.add_argument("--from", dest="first", type=int, metavar="TICK", help="first tick to draw")
@@ -64,6 +66,11 @@ def _command(commands, name, run, text):
     return command
 
 
+def _takes_order(command):
+    order = "by start, then by their words (question 32)"
+    command.add_argument("--in-order", action="store_true", help=f"take windows, pieces and frames {order}")
+
+
 def _asks_checker(command, default):
     otherwise = "without it, $PLANCHECK, then target/bin/plancheck" if default else "without it, none"
     command.add_argument("--plancheck", metavar="PATH", default=default, help=f"the checker to ask; {otherwise}")
@@ -75,14 +82,18 @@ def an_answer(text):
 
 def run_image(options):
     data = read_bytes(options.plan)
-    if not is_text(data):
+    if not is_text(data) and not (data and options.in_order):
         raise trouble(options.plan, "is no text" + (" but an image" if data else ": it is empty"))
-    write_whole(options.out, encode(read_text(options.plan, as_text(options.plan, data))))
+    write_whole(options.out, encode(ordered(options, plan_in(options.plan, data))))
+
+
+def ordered(options, plan):
+    """The plan with its rows in order where the options ask for it."""
+    return in_order(plan) if options.in_order else plan
 
 
 def run_text(options):
-    plan = load(options.plan)
-    print(write_text(in_order(plan) if options.in_order else plan), end="")
+    print(write_text(ordered(options, load(options.plan))), end="")
 
 
 def run_list(options):
@@ -91,28 +102,41 @@ def run_list(options):
 
 def run_check(options):
     """Prints the answer in words; an image that cannot be read has an answer too."""
-    data, plan = image_and_plan(options.plan)
+    data, plan = image_and_plan(options)
     answer = ask(options.plancheck, data)
     print(explained(plan, answer))
-    for place in lines_of(plan, answer) if plan else ():
-        print(f"{place}: this row")
+    if plan:
+        tell_row(plan, answer)
     return 0 if answer.accepted else 1
 
 
-def image_and_plan(path):
+def tell_row(plan, answer):
+    """The lines of the row that an answer names, and what to do about rows out of order."""
+    why, before = reason(plan, answer), line_before(plan, answer)
+    if why:
+        print(why)
+    for place in lines_of(plan, answer):
+        print(f"{place}: this row")
+    if before:
+        print(f"{before}: it belongs before this row")
+    if answer.number == ORDER:
+        print("--in-order takes all rows in order.")
+
+
+def image_and_plan(options):
     """The bytes to check and the plan in them, or None where the image cannot be read."""
-    data = read_bytes(path)
-    if is_text(data):
-        plan = read_text(path, as_text(path, data))
-        return encode(plan), plan
+    data = read_bytes(options.plan)
     try:
-        return data, load_image(path, data)
+        plan = ordered(options, plan_in(options.plan, data))
     except Trouble:
+        if is_text(data):
+            raise
         return data, None
+    return encode(plan) if is_text(data) or options.in_order else data, plan
 
 
 def run_picture(options):
-    plan, answer = load(options.plan), options.answer
+    plan, answer = ordered(options, load(options.plan)), options.answer
     if options.plancheck and not answer:
         answer = ask(options.plancheck, encode(plan))
     drawn = picture(plan, Path(options.plan).stem, answer, view_of(options, plan, answer))

@@ -17,8 +17,12 @@ def read_bytes(path):
 
 
 def load(path):
-    """The plan of a file: text where it has only characters, else an image."""
-    data = read_bytes(path)
+    """The plan of a file."""
+    return plan_in(path, read_bytes(path))
+
+
+def plan_in(path, data):
+    """The plan in a file's bytes: text where they are only characters, else an image."""
     return read_text(path, as_text(path, data)) if is_text(data) else load_image(path, data)
 
 

@@ -1,10 +1,12 @@
-"""Listings: every table by name with what follows from the rows, then jobs, messages, holds and chains.
+"""Listings: every table by name with what follows from the rows, then jobs, messages, holds and chains. Windows,
+pieces and frames are listed in the order of question 32, whatever order they have in the plan.
 
 A '!' stands behind what cannot be so in an accepted plan; the checker has the last word.
 """
 from .aligned import aligned
 from .chains import path, stretches, trouble_of
 from .meaning import Meaning
+from .ordering import below, order_of
 from .schema import TABLES
 from .writing import shown_values
 
@@ -51,11 +53,13 @@ def slack(later, earlier):
 
 
 def table_part(plan, meaning, table):
+    """A table's rows, those with a start in order, with their row numbers; one below its predecessor in the plan is flagged."""
     extra = EXTRAS.get(table.kind, {})
     lines = []
-    for number, record in enumerate(plan.rows[table.kind]):
+    for number in order_of(plan, table.kind):
+        record, row = plan.rows[table.kind][number], flagged(number, below(plan, table.kind, number))
         derived = [shown(derive(plan, meaning, number)) for derive in extra.values()]
-        lines.append([number, plan.name(table.kind, number), *shown_values(table, record, plan.names), *derived])
+        lines.append([row, plan.name(table.kind, number), *shown_values(table, record, plan.names), *derived])
     return part(f"table {TABLES.index(table) + 1}: {table.kind}", ["row", "name", *table.keys, *extra], lines)
 
 

@@ -1,4 +1,4 @@
-"""The questions in short, by number, as the plan paper asks them."""
+"""The questions in short, in the order in which the plan paper asks them."""
 
 QUESTIONS = {
     1: "is the image's length in bounds?",
@@ -6,6 +6,7 @@ QUESTIONS = {
     3: "are row counts in bounds, and do the tables lie without gaps?",
     4: "is H 1 to 1,000,000 and P at most 10,000?",
     5: "does each row number in the row name an existing row?",
+    32: "do windows, pieces and frames rise by start, equal starts by their words from the first on?",
     6: "are the row's values in range?",
     7: "is the window longer than its VCPU switch (v, or 0 where the VCPU keeps its core), and does it end by H?",
     8: "do windows on one core never overlap?",

@@ -44,6 +44,10 @@ KINDS = tuple(BY_KIND)
 # Kinds whose rows other rows name: their rows are written with names.
 NAMED = {column.names_rows_of for table in TABLES for column in table.columns if column.names_rows_of}
 
+# Kinds whose rows start at a tick: in an accepted plan they rise by start (question 32). No row names one of them, so putting them in
+# order changes nothing else.
+ORDERED = tuple(table.kind for table in TABLES if "start" in table.record._fields)
+
 # The trailer: the settings, an offset and a count for each table, the last word.
 TRAILER_WORDS = len(SETTINGS.columns) + 2 * len(TABLES) + 1
 TRAILER_BYTES = WORD_BYTES * TRAILER_WORDS

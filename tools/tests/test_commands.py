@@ -43,7 +43,11 @@ class Commands(unittest.TestCase):
 
     def program(self, line):
         """A checker that always prints this line."""
-        path = self.put("checker", f"#!/bin/sh\ncat > /dev/null\necho {line}\n")
+        return self.recording(line, "/dev/null")
+
+    def recording(self, line, asked):
+        """A checker that always prints this line and keeps what it was asked in a file."""
+        path = self.put("checker", f"#!/bin/sh\ncat > '{asked}'\necho {line}\n")
         os.chmod(path, 0o755)
         return path
 
@@ -57,6 +61,29 @@ class Commands(unittest.TestCase):
         self.assertEqual(run("image", text, out).returncode, 0)
         self.assertEqual(out.read_bytes(), (EXAMPLES / "case-a.image").read_bytes())
         self.assertEqual(self.files(), ["a.image", "a.txt"])
+
+    def test_image_in_order(self):
+        """From a text and from an image; without the option the lines' order stays."""
+        out, name = self.folder / "out.image", "q32-windows-by-start"
+        for plan, options, expected in (
+            (f"{name}.txt", ["--in-order"], "kept-core"),
+            (f"{name}.image", ["--in-order"], "kept-core"),
+            (f"{name}.txt", [], name),
+        ):
+            self.assertEqual(run("image", EXAMPLES / plan, out, *options).returncode, 0)
+            self.assertEqual(out.read_bytes(), (EXAMPLES / f"{expected}.image").read_bytes(), (plan, options))
+
+    def test_text_in_order(self):
+        out = self.folder / "out.image"
+        text = self.put("a.txt", run("text", EXAMPLES / "q32-pieces-by-task.image", "--in-order").stdout)
+        run("image", text, out)
+        self.assertEqual(out.read_bytes(), (EXAMPLES / "equal-starts.image").read_bytes())
+
+    def test_images_that_cannot_be_put_in_order(self):
+        for name, message in (("q01-empty", "is no text: it is empty"), ("q03-gap", "no readable image (question 3)")):
+            ran = run("image", EXAMPLES / f"{name}.image", self.folder / "out.image", "--in-order")
+            self.assertEqual((ran.returncode, self.files()), (1, []))
+            self.assertIn(message, ran.stderr)
 
     def test_bad_text_writes_no_image(self):
         text, out = self.put("a.txt", CASE_A + "task\n"), self.folder / "a.image"
@@ -110,6 +137,41 @@ class Commands(unittest.TestCase):
         self.assertIn("at task decode; no to question 13", ran.stdout)
         self.assertIn(f"{text}:4: this row", ran.stdout)
 
+    def test_check_of_rows_out_of_order(self):
+        rows = ("piece task=decode job=0 at=6..8", "window vcpu=guest at=8..9", "piece task=decode job=0 at=0..1")
+        text = self.put("a.txt", CASE_A + "\n".join(rows))
+        ran = run("check", text, "--plancheck", self.program("32 5 2"))
+        self.assertEqual(ran.returncode, 1)
+        self.assertEqual(ran.stdout.splitlines()[1:], [
+            "piece2 is below piece1: start 0 is below 6. It belongs before piece0.",
+            f"{text}:9: this row",
+            f"{text}:6: it belongs before this row",
+            "--in-order takes all rows in order.",
+        ])
+
+    def test_check_of_an_image_out_of_order(self):
+        ran = run("check", EXAMPLES / "q32-pieces-by-task.image", "--plancheck", self.program("32 5 5"))
+        self.assertEqual(ran.stdout.splitlines()[1:], [
+            "piece5 is below piece4: equal start 12; task 0 is below 4. It belongs before piece4.",
+            "--in-order takes all rows in order.",
+        ])
+
+    def test_check_in_order_asks_about_the_plan_in_order(self):
+        """The checker gets the image in order, and the lines told are those of its rows."""
+        text = self.put("a.txt", CASE_A + "piece task=decode job=0 at=0..1\n")
+        asked = self.folder / "asked"
+        checker = self.recording("10 5 0", asked)
+        ran = run("check", text, "--in-order", "--plancheck", checker)
+        self.assertEqual(ran.stdout.splitlines()[1:], [f"{text}:7: this row"])
+        run("image", text, self.folder / "a.image", "--in-order")
+        self.assertEqual(asked.read_bytes(), (self.folder / "a.image").read_bytes())
+        run("check", text, "--plancheck", checker)
+        self.assertNotEqual(asked.read_bytes(), (self.folder / "a.image").read_bytes())
+        run("check", EXAMPLES / "q32-lowest-table.image", "--in-order", "--plancheck", checker)
+        self.assertEqual(asked.read_bytes(), (EXAMPLES / "tunnel.image").read_bytes())
+        run("check", EXAMPLES / "q03-gap.image", "--in-order", "--plancheck", self.recording("3 0 0", asked))
+        self.assertEqual(asked.read_bytes(), (EXAMPLES / "q03-gap.image").read_bytes())
+
     def test_checker_without_an_answer(self):
         ran = run("check", self.put("a.txt", CASE_A), "--plancheck", self.program("hello"))
         self.assertEqual(ran.returncode, 1)
@@ -123,6 +185,14 @@ class Commands(unittest.TestCase):
         out = self.folder / "a.svg"
         self.assertEqual(run("picture", self.put("a.txt", CASE_A), out, "--answer", "13 3 0").returncode, 0)
         self.assertIn("refused (13 3 0) at task decode", out.read_text())
+
+    def test_picture_in_order(self):
+        out = self.folder / "a.svg"
+        plan = EXAMPLES / "q32-windows-by-start.txt"
+        self.assertEqual(run("picture", plan, out, "--in-order").returncode, 0)
+        self.assertIn("window3 of radio: 13..20", out.read_text())
+        run("picture", plan, out)
+        self.assertIn("window1 of radio: 13..20", out.read_text())
 
     def test_picture_of_what_is_not_there(self):
         text, out = self.put("a.txt", CASE_A), self.folder / "a.svg"

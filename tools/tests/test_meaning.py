@@ -20,7 +20,7 @@ class Charges(unittest.TestCase):
     def test_a_run_of_windows_pays_once(self):
         self.assertEqual(charges(("guest", "0..4"), ("guest", "4..6"), ("guest", "6..10")), [2, 0, 0])
 
-    def test_row_order_is_open(self):
+    def test_rows_in_any_order(self):
         self.assertEqual(charges(("guest", "6..10"), ("guest", "4..6"), ("guest", "0..4")), [0, 0, 2])
 
     def test_another_vcpu_before(self):

@@ -126,6 +126,11 @@ class Marks(unittest.TestCase):
         self.expect("q12-pieces-overlap", "piece1")
         self.expect("q18-hop-too-soon", "frame1")
 
+    def test_rows_out_of_order(self):
+        self.expect("q32-windows-by-start", "window2 of guest")
+        self.expect("q32-pieces-by-task", "piece5")
+        self.expect("q32-frames-by-link", "frame1")
+
     def test_a_tasks_pieces(self):
         self.expect("q13-a-tick-short", "piece0")
 
@@ -230,6 +235,11 @@ class Colours(unittest.TestCase):
 
 
 class Words(unittest.TestCase):
+    def test_a_row_out_of_order_is_told_in_the_title(self):
+        title = " ".join(texts(drawn(*example("q32-pieces-by-task"))))
+        self.assertIn("refused (32 5 5) at piece5; no to question 32: do windows, pieces and frames rise by start,", title)
+        self.assertIn("piece5 is below piece4: equal start 12; task 0 (beat) is below 4 (log). It belongs before piece4.", title)
+
     def test_answers_in_words(self):
         plan, answer = example("q13-a-tick-short")
         expected = "refused (13 3 0) at task decode; no to question 13: do each job's n pieces sum to C + n×d?"

@@ -7,7 +7,6 @@ from plans.answers import Answer
 from plans.files import load
 from plans.image import decode, encode
 from plans.listing import listing
-from plans.ordering import in_order
 from plans.picture.drawing import picture
 from plans.reading import read_text
 from plans.schema import TABLES
@@ -73,19 +72,6 @@ class RoundTrips(unittest.TestCase):
         longer = image[:trailer] + b"\0" + image[trailer:-4] + (trailer + 1).to_bytes(4, "little")
         self.assertFalse(readable(longer))
         self.assertRaisesRegex(BadValue, "question 3", decode, longer)
-
-    def test_in_order(self):
-        """The same rows, rising; tables whose rows others name stay as they are."""
-        plan = decode(generated("full"))
-        ordered = in_order(plan)
-        for table in TABLES:
-            rows, before = ordered.rows[table.kind], plan.rows[table.kind]
-            if table.kind in ("window", "piece", "frame"):
-                keys = [(row.start, *row) for row in rows]
-                self.assertEqual((keys, sorted(rows)), (sorted(keys), sorted(before)))
-                self.assertNotEqual(rows, before)
-            else:
-                self.assertEqual(rows, before)
 
     def test_highest_words(self):
         image = encode(decode(generated("small")))

@@ -1,17 +1,16 @@
 -- Two rows of intervals whose starts rise, walked side by side: where one ends before the other begins, it need not be looked at again.
 -- Over any intervals.
-use Prim.Native.Nat.{ℕ, suc, _+_, _≤_, _<_}
-use mathlib.Core.Path.{_≡_, refl, sym, ap, _∙_, subst}
+use Prim.Native.Nat.{ℕ, _+_, _≤_, _<_}
+use mathlib.Core.Path.{_≡_, refl, sym, ap, _∙_}
 use mathlib.Core.Logic.{_⊎_, inl, inr}
 use mathlib.Core.Bool.{Bool, true, false, not, _&&_}
-use native.Mathlib.Nat.{eq-or-lt-of-le, not-suc-le-zero}
+use native.Mathlib.Nat.{not-suc-le-zero}
 use native.Mathlib.Omega.{arith}
 use native.Mathlib.Decide.{decLt}
 use lib.Dec.{ltb}
-use borrow.Author.Tests.{ltb-false, not-false}
+use borrow.Author.Tests.{ltb-false}
 use Rattle.plan.specs.Search.{Interval, overlap, all}
-use Rattle.plan.specs.Reading.{Apart}
-use Rattle.plan.proofs.Searching.{all-yes, yes-all, all-stops}
+use Rattle.plan.proofs.Searching.{yes-all, all-stops}
 use Rattle.plan.proofs.Tests.{r-apart}
 
 module _ (f g : ℕ → Interval) (m n : ℕ) where

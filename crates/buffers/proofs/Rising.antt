@@ -1,10 +1,10 @@
 -- A writer's jobs start in their own periods, so a row's holds rise with their jobs; and writer and reader have as many jobs.
-use Prim.Native.Nat.{ℕ, suc, _+_, _*_, _/_, _≤_, _<_}
-use mathlib.Core.Path.{_≡_, refl, sym, ap, _∙_, subst}
+use Prim.Native.Nat.{ℕ, _+_, _*_, _/_, _≤_, _<_}
+use mathlib.Core.Path.{_≡_, refl, ap, subst}
 use mathlib.Core.Logic.{_⊎_, inl, inr}
 use mathlib.Core.Bool.{Bool, true, false, cond}
 use mathlib.Core.List.{List}
-use native.Mathlib.Nat.{mul-le-mul-right, eq-or-lt-of-le, suc-mul, div-mul-le-self, div-lt-iff-lt-mul}
+use native.Mathlib.Nat.{mul-le-mul-right, eq-or-lt-of-le, suc-mul, div-mul-le-self}
 use native.Mathlib.Omega.{arith}
 use lib.Dec.{eqb}
 use Rattle.plan.specs.declared.Table.the-variants.{Tasks, Pieces, Buffers}
@@ -46,9 +46,9 @@ module _ (s : List ℕ) (h : Sound s) (p : Passed (pieceQuestions s) 7) (t : ℕ
   first-high : (k : ℕ) → k < jobs s t → firstStart s t k < (k + 1) * T
   unfolding firstStart due pieceEnd
   first-high k l =
-      let w = has-piece s h p t k lt l in
+      let w = has-piece s h 7 p (omega arith) t k lt l in
       let e = of-job s t k (w .0) (w .2) in
-      let f = piece-fits s h p (w .0) (w .1) in
+      let f = piece-fits s h 7 p (omega arith) (w .0) (w .1) in
       let low = smallest-le (cycleTicks s) (starts k) (rows s Pieces) (w .0) (w .1) in
       let here : starts k (w .0) ≡ piece s (w .0) .start = rw (w .2) refl in
       let d : piece s (w .0) .start + piece s (w .0) .length ≤ k * T + task s t .deadline = rw (e .0, e .1) at (f .3) in
@@ -67,7 +67,7 @@ module _ (s : List ℕ) (h : Sound s) (p : Passed (pieceQuestions s) 7) (t : ℕ
           pick true e =
               let q = of-job s t k (w .0) e in
               let here : starts k (w .0) ≡ piece s (w .0) .start = rw e refl in
-              let f : k * T ≤ piece s (w .0) .start = rw (q .0, q .1) at (piece-fits s h p (w .0) (w .1) .2) in
+              let f : k * T ≤ piece s (w .0) .start = rw (q .0, q .1) at (piece-fits s h 7 p (omega arith) (w .0) (w .1) .2) in
               omega (arith, w .2)
           pick false e =
               let here : starts k (w .0) ≡ cycleTicks s = rw e refl in

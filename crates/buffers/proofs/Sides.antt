@@ -1,6 +1,6 @@
 -- What a side tells of two holds, and what is left when a walk along two rows' holds ends.
 use Prim.Native.Nat.{ℕ, _≤_, _<_}
-use mathlib.Core.Path.{_≡_, refl, sym, ap, _∙_, subst}
+use mathlib.Core.Path.{_≡_, refl, sym, _∙_, subst}
 use mathlib.Core.Bool.{Bool, true, false, not, _&&_, cond, true≢false}
 use mathlib.Core.List.{List}
 use mathlib.Core.Logic.{_⊎_, inl, inr}
@@ -11,7 +11,6 @@ use borrow.Author.Tests.{leb-true, leb-false, ltb-true, ltb-false}
 use Rattle.plan.specs.Image.{buffer}
 use Rattle.plan.specs.Search.{Interval, overlap, all}
 use Rattle.plan.specs.Questions.{jobs, hold}
-use Rattle.buffers.specs.declared.Hold.{Hold}
 use Rattle.buffers.specs.Holds.{holdOf, sideOf, holdsApart}
 use Rattle.buffers.proofs.Merging.{other-side}
 

@@ -1,10 +1,9 @@
 // Questions 22 to 24 (paper 01, "The questions"): buffers and their holds.
 ghost use mathlib.Core.Path.{_≡_};
-ghost use mathlib.Core.Bool.{not};
 ghost use Prim.Native.Nat.{_-_, _<_, _≤_};
 ghost use Rattle.plan.specs.declared.Table.the-variants.{Buffers};
 ghost use Rattle.plan.specs.Image.{rows, buffer};
-ghost use Rattle.plan.specs.Questions.{jobs, bufferEnds, readerWaits, sameBuffer, hold, holdApart, holdClear};
+ghost use Rattle.plan.specs.Questions.{jobs, bufferEnds, readerWaits, sameBuffer, holdApart, holdClear};
 ghost use Rattle.plan.specs.Questions.{questionAt, pieceQuestions, bufferQuestions, answerTo};
 ghost use Rattle.plan.specs.Held.{Sound, Passed, refusing};
 ghost use Rattle.jobs.specs.Times.{Timed};

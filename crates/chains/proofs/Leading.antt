@@ -1,14 +1,14 @@
 -- A task leads on where a message that it sends has a reader that does.
-use Prim.Native.Nat.{ℕ, zero, suc, _+_, _-_, _*_, _%_, _≤_, _<_}
-use mathlib.Core.Path.{_≡_, refl, sym, ap, subst, _∙_}
+use Prim.Native.Nat.{ℕ, _+_, _-_, _*_, _%_, _≤_, _<_}
+use mathlib.Core.Path.{_≡_, refl, sym, subst, _∙_}
 use mathlib.Core.Logic.{_⊎_, inl, inr, _≢_}
-use mathlib.Core.Bool.{Bool, true, false, _&&_, cond, true≢false}
+use mathlib.Core.Bool.{Bool, true, false, cond, true≢false}
 use mathlib.Core.List.{List}
 use native.Mathlib.Nat.{le-div-iff-mul-le, mod-eq-of-lt}
 use native.Mathlib.Omega.{arith}
 use native.Mathlib.Decide.{decLt}
 use lib.ListN.{length, getD, set, replicate, length-set, getD-replicate, List·getD-eq-default}
-use lib.Seq.{getD-set-same, getD-set-other}
+use lib.Seq.{getD-set-other}
 use lib.Dec.{ltb, eqb}
 use borrow.Author.Tests.{lt-ltb, le-ltb, eq-eqb, ne-eqb, eqb-true}
 use Rattle.plan.specs.declared.Table.the-variants.{Tasks, Pieces, Streams, Buffers, Chains}
@@ -17,7 +17,7 @@ use Rattle.plan.specs.Search.{any, leads}
 use Rattle.plan.specs.Questions.{joins, jobs, firstStart, pieceQuestions, streamQuestions, bufferQuestions, chainQuestions, questionAt, each, chainTasks, chainPath}
 use Rattle.plan.specs.Reading as R
 use Rattle.plan.specs.Held.{Sound, Passed}
-use Rattle.plan.proofs.Tests.{any-row, row-any}
+use Rattle.plan.proofs.Tests.{row-any}
 use Rattle.plan.proofs.Searching.{and-true, none-iff}
 use Rattle.plan.proofs.Meanings as Mean
 use Rattle.plan.proofs.Paths as Path
@@ -25,7 +25,7 @@ use Rattle.plan.proofs.Facts.{Facts, facts-of}
 use Rattle.plan.proofs.Answers.{accepted-holds}
 use Rattle.plan.proofs.Asking.{passed-all}
 use Rattle.plan.proofs.Messages.{joined-start, leads-jobs}
-use Rattle.jobs.proofs.Gathering.{smallest-top}
+use Rattle.tallies.proofs.Tallying.{smallest-top}
 use Rattle.chains.specs.Walks.{Asked, messages, senderOf, readerOf, leadsTo, sentOn, Marked}
 
 -- what 1 to 24 have shown, by name

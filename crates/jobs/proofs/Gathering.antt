@@ -1,223 +1,319 @@
--- A piece taken in: its job's first start and last end are brought up to date, and no other job's change.
-use Prim.Native.Nat.{ℕ, zero, suc, _+_, _≤_, _<_, min, max}
+-- A piece taken in: its job's first start, last end and work are brought up to date, and no other job's change.
+use Prim.Native.Nat.{ℕ, zero, suc, _+_, _-_, _*_, _^_, _≤_, _<_, min, max}
 use mathlib.Core.Path.{_≡_, refl, sym, ap, _∙_, subst}
 use mathlib.Core.Bool.{Bool, true, false, cond, true≢false}
-use mathlib.Core.Logic.{_⊎_, inl, inr}
-use native.Mathlib.Nat.{eq-or-lt-of-le, le-of-suc-le-suc, not-suc-le-zero}
+use mathlib.Core.Logic.{_⊎_, inl, inr, _≢_}
+use native.Mathlib.Nat.{div-le-self, eq-or-lt-of-le, le-of-suc-le-suc, not-suc-le-zero}
+use native.Mathlib.Decide.{ℕ-discrete}
 use native.Mathlib.Numerals.{add-one}
 use mathlib.Core.List.{List}
 use native.Mathlib.Omega.{arith}
+use lib.Dec.{eqb}
 use lib.ListN.{length, getD, set, length-set}
 use lib.Seq.{getD-set-same, getD-set-other}
+use borrow.Author.Tests.{eq-eqb, ne-eqb}
 use Rattle.plan.specs.declared.Table.the-variants.{Tasks, Pieces}
-use Rattle.plan.specs.Image.{rows, cycleTicks, piece, shape}
-use Rattle.plan.specs.Search.{sum, smallest, largest}
-use Rattle.plan.specs.Questions.{pieceQuestions, jobs, ofJob, pieceEnd, firstStart, lastEnd}
+use Rattle.plan.specs.Image.{rows, cycleTicks, task, piece, shape}
+use Rattle.plan.specs.Search.{sum}
+use Rattle.plan.specs.Questions.{pieceQuestions, jobs, ofJob, pieceEnd, switchTicks, firstStart, lastEnd}
 use Rattle.plan.specs.Held.{Sound, Passed}
-use Rattle.plan.proofs.Searching.{smallest-turn, largest-turn}
+use Rattle.plan.proofs.Searching.{sum-turn}
+use Rattle.plan.proofs.Passing.{piece-ends}
 use Rattle.plan.proofs.Jobs.{of-job}
-use Rattle.jobs.specs.Times.{place, takenAt, Placed, Cleared, Gathered, Timed}
-use Rattle.jobs.proofs.Places.{place-below, place-one}
+use Rattle.tallies.specs.Tallies.{tally, Kept}
+use Rattle.tallies.proofs.Tallying.{kept-apart, kept-as, kept-more, kept-none, tally-none, tally-at, tally-other, tally-next, tally-skip, tally-sum, tally-largest, tally-smallest}
+use Rattle.tallies.proofs.Places.{place-below, place-one}
+use Rattle.jobs.specs.Times.{place, taskPlace, piecePlace, workOf, takenAt, Placed, Cleared, Gathered, AllGathered, Timed}
 use Rattle.jobs.proofs.Held.{job-of, piece-fits, all-placed}
 
--- a smallest is at most its top, a sum's place is one of the words'
-pub smallest-top : (top : ℕ) (f : ℕ → ℕ) (n : ℕ) → smallest top n f ≤ top
-unfolding smallest
-smallest-top top f zero = omega arith
-smallest-top top f (suc n) = let h = smallest-top top f n in omega arith
+-- ---- places
 
-module _ (s : List ℕ) (room : sum (rows s Tasks) (jobs s) ≤ 2048) where
-  pub place-most : (t k : ℕ) → t < rows s Tasks → k < jobs s t → place s t k < 2048
-  unfolding place
-  place-most t k l m = omega (arith, place-below (jobs s) t (rows s Tasks) k l m)
+module _ (s : List ℕ) (h : Sound s) (m : ℕ) (p : Passed (pieceQuestions s) m) (four : 4 ≤ m) where
+  -- a piece is at the place of a job exactly if it is one of the job's
+  pub told : (t k : ℕ) → t < rows s Tasks → k < jobs s t → place s t k < 2048 → (i : ℕ) → i < rows s Pieces → eqb (piecePlace s i) (place s t k) ≡ ofJob s t k i
+  unfolding place piecePlace taskPlace
+  told t k l y d i x = go (ofJob s t k i) refl
+    where
+      there : ofJob s t k i ≡ true → min 2048 (sum (piece s i .task) (jobs s)) + piece s i .job ≡ sum t (jobs s) + k
+      there e = let w = of-job s t k i e in omega (arith, ap (λ (z : ℕ). sum z (jobs s)) (w .0), w .1)
 
-module _ (s times : List ℕ) (h : Sound s) (p : Passed (pieceQuestions s) 7) (i : ℕ) (l : i < rows s Pieces) (g : Gathered s times i) where
-  abbrev T : ℕ
-  T = piece s i .task
+      back : min 2048 (sum (piece s i .task) (jobs s)) + piece s i .job ≡ sum t (jobs s) + k → ofJob s t k i ≡ true
+      back e =
+          let w = place-one (jobs s) t k (piece s i .task) (piece s i .job) y (piece-fits s h m p four i x .0) (omega arith) in
+          job-of s t k i (sym (w .0)) (sym (w .1))
 
-  abbrev K : ℕ
-  K = piece s i .job
+      go : (b : Bool) → ofJob s t k i ≡ b → eqb (min 2048 (sum (piece s i .task) (jobs s)) + piece s i .job) (sum t (jobs s) + k) ≡ b
+      go true e = eq-eqb _ _ (there e)
+      go false e = ne-eqb _ _ (λ z. true≢false (sym (back z) ∙ e))
 
+pub place-most : (s : List ℕ) → sum (rows s Tasks) (jobs s) ≤ 2048 → (t k : ℕ) → t < rows s Tasks → k < jobs s t → place s t k < 2048
+unfolding place
+place-most s room t k l m = omega (arith, place-below (jobs s) t (rows s Tasks) k l m)
+
+-- ---- a piece is taken in
+
+module _ (s times : List ℕ) (h : Sound s) (m : ℕ) (p : Passed (pieceQuestions s) m) (six : 6 ≤ m) (i : ℕ) (l : i < rows s Pieces) (g : Gathered s times i) where
   abbrev at : ℕ
-  at = place s T K
+  at = piecePlace s i
 
-  abbrev x : ℕ
-  x = min (getD times (256 + at) 0) (piece s i .start)
-
-  abbrev y : ℕ
-  y = max (getD times (2304 + at) 0) (pieceEnd s i)
-
-  abbrev after : List ℕ
-  after = set (set times (256 + at) x) (2304 + at) y
-
-  pub task-exists : T < rows s Tasks
+  pub task-exists : piece s i .task < rows s Tasks
   task-exists = h .names Pieces i l
 
-  job-exists : K < jobs s T
-  job-exists = piece-fits s h p i l .0
-
-  pub at-most : at < 2048
-  at-most = place-most s (all-placed s h p) T K task-exists job-exists
-
   -- what the code adds up
-  pub at-is : getD times T 0 + K ≡ at
-  unfolding place
-  at-is = rw (g .placed .places T task-exists) refl
+  pub at-is : getD times (piece s i .task) 0 + piece s i .job ≡ at
+  unfolding piecePlace
+  at-is = rw (g .placed .places (piece s i .task) task-exists) refl
 
-  first-word : getD after (256 + at) 0 ≡ x
-  first-word =
-      getD-set-other (set times (256 + at) x) (2304 + at) (256 + at) y 0 (omega arith)
-      ∙ getD-set-same times (256 + at) x 0 (let e = g .placed .size in let a = at-most in omega arith)
+  pub at-fits : at ≤ 1002048
+  unfolding piecePlace taskPlace jobs
+  at-fits =
+      let f = piece-fits s h m p (omega arith) i l in
+      let d = div-le-self (cycleTicks s) (task s (piece s i .task) .period) in
+      omega (arith, f .0, h .cycle-most)
 
-  last-word : getD after (2304 + at) 0 ≡ y
-  last-word = getD-set-same (set times (256 + at) x) (2304 + at) y 0 (let e = g .placed .size in let a = at-most in rw length-set (omega arith))
+  pub task-word : getD times (piece s i .task) 0 ≤ 2048
+  unfolding taskPlace
+  task-word = let e = g .placed .places (piece s i .task) task-exists in omega arith
 
-  other-word : (j : ℕ) → (j ≡ 256 + at → ⊥) → (j ≡ 2304 + at → ⊥) → getD after j 0 ≡ getD times j 0
-  other-word j a b =
-      getD-set-other (set times (256 + at) x) (2304 + at) j y 0 b ∙ getD-set-other times (256 + at) j x 0 a
+  -- the switch is taken off, and the work fits
+  pub switch-less : switchTicks s (piece s i .task) ≤ piece s i .length
+  switch-less = let f = piece-fits s h m p (omega arith) i l in omega (arith, f .1)
 
-  module _ (t k : ℕ) (lt : t < rows s Tasks) (lk : k < jobs s t) where
-    mine-there : place s t k ≡ at → ofJob s t k i ≡ true
-    unfolding place
-    mine-there q = let w = place-one (jobs s) t k T K lk job-exists q in job-of s t k i (sym (w .0)) (sym (w .1))
+  pub work-is : workOf s i ≡ piece s i .length - switchTicks s (piece s i .task)
+  unfolding workOf
+  work-is = refl
 
-    same-place : ofJob s t k i ≡ true → place s t k ≡ at
-    same-place e = let w = of-job s t k i e in (rw (w .0, w .1) refl)
+  work-each : (j : ℕ) → j < rows s Pieces → workOf s j ≤ 1000000
+  unfolding workOf pieceEnd
+  work-each j d = let e = piece-ends s m p (omega arith) j d in omega (arith, h .cycle-most)
 
-    first-next : getD after (256 + place s t k) 0 ≡ smallest (cycleTicks s) (i + 1) (λ j. cond (ofJob s t k j) (piece s j .start) (cycleTicks s))
-    first-next = go (ofJob s t k i) refl
-      where
-        go : (b : Bool) → ofJob s t k i ≡ b
-            → getD after (256 + place s t k) 0 ≡ smallest (cycleTicks s) (i + 1) (λ j. cond (ofJob s t k j) (piece s j .start) (cycleTicks s))
-        go true e =
-            let q = same-place e in
-            ap (λ (z : ℕ). getD after (256 + z) 0) q ∙ first-word
-            ∙ ap (λ (z : ℕ). min (getD times (256 + z) 0) (piece s i .start)) (sym q)
-            ∙ (rw (smallest-turn, e, g .firsts t k lt lk) refl)
-        go false e =
-            let m = place-most s (all-placed s h p) t k lt lk in
-            let n = smallest-top (cycleTicks s) (λ j. cond (ofJob s t k j) (piece s j .start) (cycleTicks s)) i in
-            other-word (256 + place s t k)
-            (λ z. true≢false (sym (mine-there (omega arith)) ∙ e))
-            (λ z. let a = at-most in omega arith)
-            ∙ g .firsts t k lt lk ∙ (rw (smallest-turn, e) (omega arith))
+  work-most : (n : ℕ) → n ≤ rows s Pieces → (q : ℕ) → tally _+_ 0 (piecePlace s) (workOf s) n q ≤ n * 1000000
+  work-most zero d q = omega (arith, tally-none _+_ 0 (piecePlace s) (workOf s) q)
+  work-most (suc n) d q = go (ℕ-discrete q (piecePlace s n)) (work-most n (omega arith) q)
+    where
+      go : Dec (q ≡ piecePlace s n) → tally _+_ 0 (piecePlace s) (workOf s) n q ≤ n * 1000000
+          → tally _+_ 0 (piecePlace s) (workOf s) (suc n) q ≤ suc n * 1000000
+      go (yes e) k =
+          let a : tally _+_ 0 (piecePlace s) (workOf s) (suc n) q ≡ tally _+_ 0 (piecePlace s) (workOf s) n q + workOf s n =
+          subst (λ (z : ℕ). tally _+_ 0 (piecePlace s) (workOf s) (suc n) z ≡ tally _+_ 0 (piecePlace s) (workOf s) n z + workOf s n) (sym e)
+          (tally-at _+_ 0 (piecePlace s) (workOf s) n) in
+          omega (arith, work-each n (omega arith))
+      go (no e) k = omega (arith, tally-other _+_ 0 (piecePlace s) (workOf s) n q e)
 
-    last-next : getD after (2304 + place s t k) 0 ≡ largest (i + 1) (λ j. cond (ofJob s t k j) (pieceEnd s j) 0)
-    last-next = go (ofJob s t k i) refl
-      where
-        go : (b : Bool) → ofJob s t k i ≡ b → getD after (2304 + place s t k) 0 ≡ largest (i + 1) (λ j. cond (ofJob s t k j) (pieceEnd s j) 0)
-        go true e =
-            let q = same-place e in
-            ap (λ (z : ℕ). getD after (2304 + z) 0) q ∙ last-word
-            ∙ ap (λ (z : ℕ). max (getD times (2304 + z) 0) (pieceEnd s i)) (sym q)
-            ∙ (rw (largest-turn, e, g .lasts t k lt lk) refl)
-        go false e =
-            let m = place-most s (all-placed s h p) t k lt lk in
-            other-word (2304 + place s t k)
-            (λ z. let a = at-most in omega arith)
-            (λ z. true≢false (sym (mine-there (omega arith)) ∙ e))
-            ∙ g .lasts t k lt lk ∙ (rw (largest-turn, e) (omega arith))
+  module _ (y : at < 2048) where
+    pub work-fits : getD times (4352 + at) 0 + workOf s i < 2 ^ 32
+    unfolding shape
+    work-fits =
+        let c = h .inside .counts Pieces in
+        omega (arith, g .works .each at y, work-most i (omega arith) at, work-each i l)
 
-  placed-next : Placed s after
-  unfolding shape
-  placed-next =
+    abbrev x : ℕ
+    x = min (getD times (256 + at) 0) (piece s i .start)
+
+    abbrev z : ℕ
+    z = max (getD times (2304 + at) 0) (pieceEnd s i)
+
+    abbrev w : ℕ
+    w = getD times (4352 + at) 0 + workOf s i
+
+    abbrev one : List ℕ
+    one = set times (256 + at) x
+
+    abbrev two : List ℕ
+    two = set one (2304 + at) z
+
+    abbrev three : List ℕ
+    three = set two (4352 + at) w
+
+    firsts-in : Kept three 256 2048 (tally min (cycleTicks s) (piecePlace s) (λ j. piece s j .start) (i + 1))
+    firsts-in =
+        kept-apart two 256 2048 _
+        (kept-apart one 256 2048 _ (tally-next min (cycleTicks s) (piecePlace s) (λ j. piece s j .start) times 256 2048 i (g .firsts) x y refl)
+        (2304 + at) z (inr (omega arith)))
+        (4352 + at) w (inr (omega arith))
+
+    lasts-in : Kept three 2304 2048 (tally max 0 (piecePlace s) (pieceEnd s) (i + 1))
+    lasts-in =
+        kept-apart two 2304 2048 _
+        (tally-next max 0 (piecePlace s) (pieceEnd s) one 2304 2048 i (kept-apart times 2304 2048 _ (g .lasts) (256 + at) x (inl (omega arith))) z y
+        (ap (λ (v : ℕ). max v (pieceEnd s i)) (sym (getD-set-other times (256 + at) (2304 + at) x 0 (λ e. omega arith)))))
+        (4352 + at) w (inr (omega arith))
+
+    works-in : Kept three 4352 2048 (tally _+_ 0 (piecePlace s) (workOf s) (i + 1))
+    works-in =
+        tally-next _+_ 0 (piecePlace s) (workOf s) two 4352 2048 i
+        (kept-apart one 4352 2048 _ (kept-apart times 4352 2048 _ (g .works) (256 + at) x (inl (omega arith))) (2304 + at) z (inl (omega arith))) w y
+        (ap (λ (v : ℕ). v + workOf s i)
+        (sym (getD-set-other one (2304 + at) (4352 + at) z 0 (λ e. omega arith) ∙ getD-set-other times (256 + at) (4352 + at) x 0 (λ e. omega arith))))
+
+    placed-in : Placed s three (rows s Tasks)
+    unfolding shape
+    placed-in =
+        record {
+          size = simp length-set (g .placed .size);
+          places =
+              λ t lt. let c = h .inside .counts Tasks in
+              getD-set-other two (4352 + at) t w 0 (λ e. omega arith) ∙ getD-set-other one (2304 + at) t z 0 (λ e. omega arith)
+              ∙ getD-set-other times (256 + at) t x 0 (λ e. omega arith) ∙ g .placed .places t lt;
+        }
+
+    pub taken-in : Gathered s (takenAt times at (piece s i .start) (pieceEnd s i) (workOf s i)) (i + 1)
+    unfolding takenAt
+    taken-in = record { placed = placed-in; firsts = firsts-in; lasts = lasts-in; works = works-in }
+
+  -- its job has no place
+  pub passed-over : 2048 ≤ at → Gathered s times (i + 1)
+  passed-over y =
       record {
-        size = simp length-set (g .placed .size);
-        tasks = g .placed .tasks;
-        places = λ t lt. let c = h .inside .counts Tasks in other-word t (λ z. omega arith) (λ z. omega arith) ∙ g .placed .places t lt;
+        placed = g .placed;
+        firsts = tally-skip min (cycleTicks s) (piecePlace s) (λ j. piece s j .start) times 256 2048 i (g .firsts) y;
+        lasts = tally-skip max 0 (piecePlace s) (pieceEnd s) times 2304 2048 i (g .lasts) y;
+        works = tally-skip _+_ 0 (piecePlace s) (workOf s) times 4352 2048 i (g .works) y;
       }
-
-  pub taken-in : Gathered s (takenAt times at (piece s i .start) (pieceEnd s i)) (i + 1)
-  unfolding takenAt
-  taken-in = record { placed = placed-next; firsts = first-next; lasts = last-next }
-
--- all pieces are in
-pub timed : (s times : List ℕ) → sum (rows s Tasks) (jobs s) ≤ 2048 → Gathered s times (rows s Pieces) → Timed s times
-unfolding firstStart lastEnd
-timed s times r g = record { placed = g .placed; room = r; firsts = g .firsts; lasts = g .lasts }
 
 -- ---- before any piece
 
-pub cleared-none : (cycle : ℕ) (times : List ℕ) → length times ≡ 4352 → Cleared cycle times 0
-cleared-none cycle times e = record { size = e; firsts = λ p l. absurd (not-suc-le-zero l); lasts = λ p l. absurd (not-suc-le-zero l) }
+pub cleared-none : (cycle : ℕ) (times : List ℕ) → length times ≡ 6400 → Cleared cycle times 0
+cleared-none cycle times e =
+    record {
+      size = e;
+      firsts = kept-none times 256 (λ _. cycle) (omega arith);
+      lasts = kept-none times 2304 (λ _. 0) (omega arith);
+      works = kept-none times 4352 (λ _. 0) (omega arith);
+    }
 
 module _ (cycle : ℕ) (times : List ℕ) (n : ℕ) (l : n < 2048) (h : Cleared cycle times n) where
-  abbrev wiped : List ℕ
-  wiped = set (set times (256 + n) cycle) (2304 + n) 0
+  abbrev first : List ℕ
+  first = set times (256 + n) cycle
 
-  wiped-first : (p : ℕ) → p < suc n → getD wiped (256 + p) 0 ≡ cycle
-  wiped-first p m =
-      getD-set-other (set times (256 + n) cycle) (2304 + n) (256 + p) 0 0 (λ e. omega arith) ∙ pick (eq-or-lt-of-le (le-of-suc-le-suc m))
-    where
-      pick : (p ≡ n) ⊎ (p < n) → getD (set times (256 + n) cycle) (256 + p) 0 ≡ cycle
-      pick (inl q) = subst (λ (x : ℕ). getD (set times (256 + n) cycle) (256 + x) 0 ≡ cycle) (sym q) (getD-set-same times (256 + n) cycle 0 (let e = h .size in omega arith))
-      pick (inr q) = getD-set-other times (256 + n) (256 + p) cycle 0 (λ e. omega arith) ∙ h .firsts p q
+  abbrev second : List ℕ
+  second = set first (2304 + n) 0
 
-  wiped-last : (p : ℕ) → p < suc n → getD wiped (2304 + p) 0 ≡ 0
-  wiped-last p m = pick (eq-or-lt-of-le (le-of-suc-le-suc m))
-    where
-      pick : (p ≡ n) ⊎ (p < n) → getD wiped (2304 + p) 0 ≡ 0
-      pick (inl q) = subst (λ (x : ℕ). getD wiped (2304 + x) 0 ≡ 0) (sym q) (getD-set-same (set times (256 + n) cycle) (2304 + n) 0 0 (let e = h .size in rw length-set (omega arith)))
-      pick (inr q) =
-          getD-set-other (set times (256 + n) cycle) (2304 + n) (2304 + p) 0 0 (λ e. omega arith)
-          ∙ getD-set-other times (256 + n) (2304 + p) cycle 0 (λ e. omega arith) ∙ h .lasts p q
-
-  pub cleared-more : Cleared cycle wiped (n + 1)
-  cleared-more = rw add-one (record { size = simp length-set (h .size); firsts = wiped-first; lasts = wiped-last })
+  pub cleared-more : Cleared cycle (set second (4352 + n) 0) (n + 1)
+  cleared-more =
+      let e = h .size in
+      let s1 : length first ≡ 6400 = simp length-set e in
+      let s2 : length second ≡ 6400 = simp length-set e in
+      record {
+        size = simp length-set e;
+        firsts =
+            kept-apart second 256 (n + 1) (λ _. cycle)
+            (kept-apart first 256 (n + 1) (λ _. cycle) (kept-more times 256 n (λ _. cycle) (h .firsts) (omega arith) cycle refl) (2304 + n) 0 (inr (omega arith)))
+            (4352 + n) 0 (inr (omega arith));
+        lasts =
+            kept-apart second 2304 (n + 1) (λ _. 0)
+            (kept-more first 2304 n (λ _. 0) (kept-apart times 2304 n (λ _. 0) (h .lasts) (256 + n) cycle (inl (omega arith))) (omega arith) 0 refl)
+            (4352 + n) 0 (inr (omega arith));
+        works =
+            kept-more second 4352 n (λ _. 0)
+            (kept-apart first 4352 n (λ _. 0) (kept-apart times 4352 n (λ _. 0) (h .works) (256 + n) cycle (inl (omega arith))) (2304 + n) 0 (inl (omega arith)))
+            (omega arith) 0 refl;
+      }
 
 -- ---- the tasks' places
 
 -- the places of the first n tasks are written
 pub record PlacedTo (s times : List ℕ) (n : ℕ) : Type 0 where
   pub cleared : Cleared (cycleTicks s) times 2048
-  pub places : (t : ℕ) → t < n → getD times t 0 ≡ sum t (jobs s)
+  pub places : (t : ℕ) → t < n → getD times t 0 ≡ taskPlace s t
 
 pub placed-none : (s times : List ℕ) → Cleared (cycleTicks s) times 2048 → PlacedTo s times 0
 placed-none s times h = record { cleared = h; places = λ t l. absurd (not-suc-le-zero l) }
 
-module _ (s times : List ℕ) (n : ℕ) (l : n < 256) (h : PlacedTo s times n) where
-  abbrev written : List ℕ
-  written = set times n (sum n (jobs s))
+pub place-0 : (s : List ℕ) → 0 ≡ taskPlace s 0
+unfolding taskPlace sum
+place-0 s = refl
 
-  written-task : (t : ℕ) → t < suc n → getD written t 0 ≡ sum t (jobs s)
+pub place-next : (s : List ℕ) (t : ℕ) → min 2048 (taskPlace s t + jobs s t) ≡ taskPlace s (t + 1)
+unfolding taskPlace
+place-next s t = omega (arith, sum-turn (jobs s) t)
+
+pub place-fits : (s : List ℕ) → Sound s → (t : ℕ) → t < rows s Tasks → taskPlace s t + jobs s t ≤ 1002048
+unfolding taskPlace jobs
+place-fits s h t l = let d = div-le-self (cycleTicks s) (task s t .period) in omega (arith, h .cycle-most)
+
+module _ (s times : List ℕ) (n : ℕ) (l : n < 256) (h : PlacedTo s times n) where
+  abbrev v : ℕ
+  v = taskPlace s n
+
+  written-task : (t : ℕ) → t < suc n → getD (set times n v) t 0 ≡ taskPlace s t
   written-task t m = pick (eq-or-lt-of-le (le-of-suc-le-suc m))
     where
-      pick : (t ≡ n) ⊎ (t < n) → getD written t 0 ≡ sum t (jobs s)
-      pick (inl q) = subst (λ (x : ℕ). getD written x 0 ≡ sum x (jobs s)) (sym q) (getD-set-same times n (sum n (jobs s)) 0 (let e = h .cleared .size in omega arith))
-      pick (inr q) = getD-set-other times n t (sum n (jobs s)) 0 (λ e. omega arith) ∙ h .places t q
+      pick : (t ≡ n) ⊎ (t < n) → getD (set times n v) t 0 ≡ taskPlace s t
+      pick (inl q) = subst (λ (x : ℕ). getD (set times n v) x 0 ≡ taskPlace s x) (sym q) (getD-set-same times n v 0 (let e = h .cleared .size in omega arith))
+      pick (inr q) = getD-set-other times n t v 0 (λ e. omega arith) ∙ h .places t q
 
-  pub placed-more : PlacedTo s written (n + 1)
+  pub placed-more : PlacedTo s (set times n v) (n + 1)
   placed-more =
       rw add-one
       (record {
         cleared =
             record {
               size = simp length-set (h .cleared .size);
-              firsts = λ p m. getD-set-other times n (256 + p) (sum n (jobs s)) 0 (λ e. omega arith) ∙ h .cleared .firsts p m;
-              lasts = λ p m. getD-set-other times n (2304 + p) (sum n (jobs s)) 0 (λ e. omega arith) ∙ h .cleared .lasts p m;
+              firsts = kept-apart times 256 2048 _ (h .cleared .firsts) n v (inl (omega arith));
+              lasts = kept-apart times 2304 2048 _ (h .cleared .lasts) n v (inl (omega arith));
+              works = kept-apart times 4352 2048 _ (h .cleared .works) n v (inl (omega arith));
             };
         places = written-task;
       })
 
 -- all tasks have their places and no piece is in
-pub gathered-none : (s times : List ℕ) → rows s Tasks ≤ 256 → sum (rows s Tasks) (jobs s) ≤ 2048 → PlacedTo s times (rows s Tasks) → Gathered s times 0
-unfolding smallest largest
-gathered-none s times c r h =
+pub gathered-none : (s times : List ℕ) → PlacedTo s times (rows s Tasks) → Gathered s times 0
+gathered-none s times h =
     record {
-      placed = record { size = h .cleared .size; tasks = c; places = h .places };
-      firsts = λ t k l m. h .cleared .firsts (place s t k) (place-most s r t k l m);
-      lasts = λ t k l m. h .cleared .lasts (place s t k) (place-most s r t k l m);
+      placed = record { size = h .cleared .size; places = h .places };
+      firsts = kept-as times 256 2048 _ (h .cleared .firsts) _ (λ q l. tally-none min (cycleTicks s) (piecePlace s) (λ j. piece s j .start) q);
+      lasts = kept-as times 2304 2048 _ (h .cleared .lasts) _ (λ q l. tally-none max 0 (piecePlace s) (pieceEnd s) q);
+      works = kept-as times 4352 2048 _ (h .cleared .works) _ (λ q l. tally-none _+_ 0 (piecePlace s) (workOf s) q);
     }
 
--- ---- reading
+-- ---- all pieces are in: reading
+
+module _ (s times : List ℕ) (h : Sound s) (m : ℕ) (p : Passed (pieceQuestions s) m) (four : 4 ≤ m) (g : AllGathered s times) (t k : ℕ) (l : t < rows s Tasks)
+    (y : k < jobs s t) (d : place s t k < 2048) where
+  pub work-read : getD times (4352 + place s t k) 0 ≡ sum (rows s Pieces) (λ i. cond (ofJob s t k i) (workOf s i) 0)
+  work-read = g .works .each (place s t k) d ∙ tally-sum (piecePlace s) (workOf s) (place s t k) (ofJob s t k) (rows s Pieces) (told s h m p four t k l y d)
+
+  first-gathered : getD times (256 + place s t k) 0 ≡ firstStart s t k
+  unfolding firstStart
+  first-gathered =
+      g .firsts .each (place s t k) d
+      ∙ tally-smallest (piecePlace s) (λ i. piece s i .start) (place s t k) (ofJob s t k) (cycleTicks s) (rows s Pieces) (told s h m p four t k l y d)
+
+  last-gathered : getD times (2304 + place s t k) 0 ≡ lastEnd s t k
+  unfolding lastEnd
+  last-gathered = g .lasts .each (place s t k) d ∙ tally-largest (piecePlace s) (pieceEnd s) (place s t k) (ofJob s t k) (rows s Pieces) (told s h m p four t k l y d)
+
+-- the place that the code adds up, where it is one of the words'
+pub place-of-task : (s times : List ℕ) → Placed s times (rows s Tasks) → (t k : ℕ) → t < rows s Tasks
+    → ((getD times t 0 + k < 2048) → getD times t 0 + k ≡ place s t k) × ((2048 ≤ getD times t 0 + k) → 2048 ≤ place s t k)
+unfolding place taskPlace
+place-of-task s times h t k l = let e = h .places t l in (λ y. omega arith, λ y. omega arith)
+
+pub task-word-most : (s times : List ℕ) → Placed s times (rows s Tasks) → (t : ℕ) → t < rows s Tasks → getD times t 0 ≤ 2048
+unfolding taskPlace
+task-word-most s times h t l = let e = h .places t l in omega arith
+
+-- 13 is passed
+pub timed : (s times : List ℕ) (h : Sound s) → Passed (pieceQuestions s) 7 → AllGathered s times → Timed s times
+unfolding shape
+timed s times h p g =
+    let r = all-placed s h 7 p (omega arith) in
+    record {
+      placed = g .placed;
+      few = h .inside .counts Tasks;
+      room = r;
+      firsts = λ t k l y. first-gathered s times h 7 p (omega arith) g t k l y (place-most s r t k l y);
+      lasts = λ t k l y. last-gathered s times h 7 p (omega arith) g t k l y (place-most s r t k l y);
+    }
 
 module _ (s times : List ℕ) (h : Timed s times) (t k : ℕ) (l : t < rows s Tasks) (m : k < jobs s t) where
-  pub word-place : getD times t 0 + k ≡ place s t k
-  unfolding place
-  word-place = rw (h .placed .places t l) refl
-
   pub place-inside : getD times t 0 + k < 2048
-  place-inside = rw word-place (place-most s (h .room) t k l m)
+  unfolding place taskPlace
+  place-inside = let e = h .placed .places t l in omega (arith, place-most s (h .room) t k l m)
+
+  word-place : getD times t 0 + k ≡ place s t k
+  word-place = place-of-task s times (h .placed) t k l .0 place-inside
 
   pub first-read : getD times (256 + (getD times t 0 + k)) 0 ≡ firstStart s t k
   first-read = rw word-place (h .firsts t k l m)

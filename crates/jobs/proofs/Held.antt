@@ -1,24 +1,23 @@
 -- What questions 7 to 13 give, of pieces and jobs.
-use Prim.Native.Nat.{ℕ, zero, suc, _+_, _*_, _≤_, _<_}
+use Prim.Native.Nat.{ℕ, zero, suc, _+_, _-_, _*_, _≤_, _<_}
 use mathlib.Core.Path.{_≡_, refl, sym, ap, _∙_, subst}
-use mathlib.Core.Bool.{Bool, true, false, _&&_, cond, true≢false}
+use mathlib.Core.Bool.{Bool, true, false, cond, true≢false}
 use mathlib.Core.List.{List}
+use native.Mathlib.Decide.{decLt}
 use native.Mathlib.Omega.{arith}
-use lib.Dec.{eqb}
 use borrow.Author.Tests.{eq-eqb, eqb-true}
-use Rattle.plan.specs.declared.Table.the-variants.{Tasks, Windows, Pieces}
-use Rattle.plan.specs.Image.{rows, cycleTicks, piece, task, shape}
+use Rattle.plan.specs.declared.Table.the-variants.{Tasks, Pieces}
+use Rattle.plan.specs.Image.{rows, piece, task, shape}
 use Rattle.plan.specs.Search.{any, sum, count}
-use Rattle.plan.specs.Questions.{pieceQuestions, jobs, ofJob, pieceEnd, jobBudget, taskBudget, switchTicks}
-use Rattle.plan.specs.Reading.{AllHold, pieceMeanings, each, PieceFits, PieceInside, TaskBudget, WindowFits}
+use Rattle.plan.specs.Questions.{pieceQuestions, jobs, ofJob, jobBudget, taskBudget, switchTicks}
+use Rattle.plan.specs.Reading.{PieceFits}
 use Rattle.plan.specs.Held.{Sound, Passed}
-use Rattle.plan.proofs.Searching.{and-true}
-use Rattle.plan.proofs.Tests.{any-row, none-passes}
-use Rattle.plan.proofs.Answers.{accepted-holds}
-use Rattle.plan.proofs.Asking.{passed-all}
-use Rattle.plan.proofs.Meanings.{piece-agree}
+use Rattle.plan.proofs.Searching.{none-iff, all-yes}
+use Rattle.plan.proofs.Tests.{any-row}
+use Rattle.plan.proofs.Passing.{pieces-fit, tasks-budget}
 use Rattle.plan.proofs.Jobs.{of-job}
-use Rattle.jobs.proofs.Places.{covered, place-of}
+use Rattle.jobs.specs.Times.{JobsBefore}
+use Rattle.tallies.proofs.Places.{covered, place-of}
 
 -- is a piece one of a job's
 pub job-of : (s : List ℕ) (t k p : ℕ) → piece s p .task ≡ t → piece s p .job ≡ k → ofJob s t k p ≡ true
@@ -36,52 +35,66 @@ no-sum test f (suc n) h = go (any n test) (test n) refl refl (λ q. no-sum test 
     go false true p q k e = absurd (true≢false (sym (rw (p, q) refl) ∙ e))
     go false false p q k e = rw (k p, q) refl
 
-module _ (s : List ℕ) (h : Sound s) (p : Passed (pieceQuestions s) 7) where
-  holds : AllHold (pieceMeanings s)
-  unfolding pieceQuestions
-  holds = accepted-holds (pieceQuestions s) (pieceMeanings s) (piece-agree s) (passed-all (pieceQuestions s) p)
+abbrev pub HasPiece : List ℕ → ℕ → ℕ → Type 0
+HasPiece s t k = (i : ℕ) × (i < rows s Pieces) × (ofJob s t k i ≡ true)
 
-  window-fits : (w : ℕ) → w < rows s Windows → WindowFits s w
-  unfolding pieceMeanings each
-  window-fits w l = holds .0 w l
-
-  pub piece-fits : (i : ℕ) → i < rows s Pieces → PieceFits s i
-  unfolding pieceMeanings each
-  piece-fits i l = holds .1 .1 .1 .0 i l
-
-  piece-inside : (i : ℕ) → i < rows s Pieces → PieceInside s i
-  unfolding pieceMeanings each
-  piece-inside i l = holds .1 .1 .1 .1 .0 i l
-
-  task-budget : (t : ℕ) → t < rows s Tasks → TaskBudget s t
-  unfolding pieceMeanings each
-  task-budget t l = holds .1 .1 .1 .1 .1 .1 .0 t l
-
-  -- a piece ends in the cycle
-  pub end-most : (i : ℕ) → i < rows s Pieces → pieceEnd s i ≤ cycleTicks s
-  end-most i l = let w = piece-inside i l in omega (arith, w .4, window-fits (w .0) (w .1) .1)
-
-  -- every job has a piece
-  pub has-piece : (t k : ℕ) → t < rows s Tasks → k < jobs s t → (i : ℕ) × (i < rows s Pieces) × (ofJob s t k i ≡ true)
-  has-piece t k l m = go (any (rows s Pieces) (ofJob s t k)) refl
+module _ (s : List ℕ) (h : Sound s) where
+  -- a job with its budget has a piece
+  pub budget-piece : (t k : ℕ) → t < rows s Tasks → jobBudget s t k ≡ true → HasPiece s t k
+  unfolding jobBudget
+  budget-piece t k l e = go (any (rows s Pieces) (ofJob s t k)) refl (eqb-true _ _ e)
     where
-      go : (b : Bool) → any (rows s Pieces) (ofJob s t k) ≡ b → (i : ℕ) × (i < rows s Pieces) × (ofJob s t k i ≡ true)
-      go true e = any-row (ofJob s t k) (rows s Pieces) e
-      go false e =
-          let b = task-budget t l k m in
-          absurd (omega (arith, no-sum (ofJob s t k) (λ i. piece s i .length) (rows s Pieces) e, h .ranges Tasks t l .2))
+      go : (b : Bool) → any (rows s Pieces) (ofJob s t k) ≡ b
+          → sum (rows s Pieces) (λ i. cond (ofJob s t k i) (piece s i .length) 0) ≡ task s t .budget + count (rows s Pieces) (ofJob s t k) * switchTicks s t
+          → HasPiece s t k
+      go true d q = any-row (ofJob s t k) (rows s Pieces) d
+      go false d q = absurd (omega (arith, no-sum (ofJob s t k) (λ i. piece s i .length) (rows s Pieces) d, h .ranges Tasks t l .2))
 
-  -- so there is a word for each
-  pub all-placed : sum (rows s Tasks) (jobs s) ≤ 2048
-  unfolding shape
-  all-placed =
-      let n = rows s Pieces in
-      let c = covered (λ i. sum (piece s i .task) (jobs s) + piece s i .job) n (sum (rows s Tasks) (jobs s)) (λ v l. mine v (place-of (jobs s) (rows s Tasks) v l)) in
-      omega (arith, c, h .inside .counts Pieces)
+  -- where the jobs of the tasks before t and the first k of t have pieces, there are as many pieces
+  pub pieces-suffice : (t k : ℕ) → k ≤ jobs s t → ((u j : ℕ) → u < t → j < jobs s u → HasPiece s u j) → ((j : ℕ) → j < k → HasPiece s t j)
+      → sum t (jobs s) + k ≤ rows s Pieces
+  pieces-suffice t k m before here =
+      covered (λ i. sum (piece s i .task) (jobs s) + piece s i .job) (rows s Pieces) (sum t (jobs s) + k) (λ v l. pick v l (decLt v (sum t (jobs s))))
     where
-      mine : (v : ℕ) → (t : ℕ) × (k : ℕ) × (t < rows s Tasks) × (k < jobs s t) × (sum t (jobs s) + k ≡ v)
+      at : (v u j : ℕ) → sum u (jobs s) + j ≡ v → HasPiece s u j → (i : ℕ) × (i < rows s Pieces) × (sum (piece s i .task) (jobs s) + piece s i .job ≡ v)
+      at v u j e q = let d = of-job s u j (q .0) (q .2) in (q .0, q .1, omega (arith, ap (λ (x : ℕ). sum x (jobs s)) (d .0), d .1, e))
+
+      pick : (v : ℕ) → v < sum t (jobs s) + k → Dec (v < sum t (jobs s))
           → (i : ℕ) × (i < rows s Pieces) × (sum (piece s i .task) (jobs s) + piece s i .job ≡ v)
-      mine v w =
-          let q = has-piece (w .0) (w .1) (w .2) (w .3) in
-          let e = of-job s (w .0) (w .1) (q .0) (q .2) in
-          (q .0, q .1, omega (arith, ap (λ (x : ℕ). sum x (jobs s)) (e .0), e .1, w .4))
+      pick v l (yes d) = let w = place-of (jobs s) t v d in at v (w .0) (w .1) (w .4) (before (w .0) (w .1) (w .2) (w .3))
+      pick v l (no d) = at v t (v - sum t (jobs s)) (omega arith) (here (v - sum t (jobs s)) (omega arith))
+
+  -- so a job past the places has not its budget, where all before it have
+  pub past-places : (t k : ℕ) → t < rows s Tasks → k < jobs s t → JobsBefore s t k → 2048 ≤ sum t (jobs s) + k → jobBudget s t k ≡ false
+  unfolding shape taskBudget
+  past-places t k l m b d = go (jobBudget s t k) refl
+    where
+      before : (u j : ℕ) → u < t → j < jobs s u → HasPiece s u j
+      before u j x y = budget-piece u j (omega arith) (all-yes (jobBudget s u) (jobs s u) (none-iff (taskBudget s) t .0 (b .0) u x) j y)
+
+      go : (a : Bool) → jobBudget s t k ≡ a → a ≡ false
+      go true e =
+          let here : (j : ℕ) → j < k + 1 → HasPiece s t j =
+          λ j y. budget-piece t j l (pickJob j y (decLt j k) e) in
+          let n = pieces-suffice t (k + 1) (omega arith) before here in
+          absurd (omega (arith, h .inside .counts Pieces))
+        where
+          pickJob : (j : ℕ) → j < k + 1 → Dec (j < k) → jobBudget s t k ≡ true → jobBudget s t j ≡ true
+          pickJob j y (yes x) e = all-yes (jobBudget s t) k (b .1) j x
+          pickJob j y (no x) e = subst (λ (z : ℕ). jobBudget s t z ≡ true) (let q : k ≡ j = omega arith in q) e
+      go false e = refl
+
+  module _ (n : ℕ) (p : Passed (pieceQuestions s) n) where
+    pub piece-fits : 4 ≤ n → (i : ℕ) → i < rows s Pieces → PieceFits s i
+    piece-fits l = pieces-fit s n p l
+
+    -- 13 is passed: every job has a piece, so there is a place for each
+    pub has-piece : 7 ≤ n → (t k : ℕ) → t < rows s Tasks → k < jobs s t → HasPiece s t k
+    unfolding jobBudget
+    has-piece l t k m y = budget-piece t k m (eq-eqb _ _ (tasks-budget s n p l t m k y))
+
+    pub all-placed : 7 ≤ n → sum (rows s Tasks) (jobs s) ≤ 2048
+    unfolding shape
+    all-placed l =
+        let q = pieces-suffice (rows s Tasks) 0 (omega arith) (λ u j x y. has-piece l u j x y) (λ j y. absurd (omega arith)) in
+        omega (arith, h .inside .counts Pieces)

@@ -1,47 +1,71 @@
--- Each job's first start and last end, gathered once into 4,352 words: word t is the place of task t's job 0 among all jobs, job
--- after job in the tasks' order; the first start of the job at place p is word 256 + p, its last end word 2,304 + p.
-use Prim.Native.Nat.{ℕ, _+_, _<_, _≤_, min, max}
+-- Each job's first start, last end and work, gathered once into 6,400 words: word t is the place of task t's job 0 among all jobs, job
+-- after job in the tasks' order; the first start of the job at place p is word 256 + p, its last end word 2,304 + p, its work word 4,352 + p.
+-- There are 2,048 places, as many as there may be pieces: a task whose jobs lie past them has place 2,048.
+use Prim.Native.Nat.{ℕ, _+_, _-_, _<_, _≤_, min, max}
 use mathlib.Core.Path.{_≡_}
-use mathlib.Core.Bool.{cond}
+use mathlib.Core.Bool.{true}
 use mathlib.Core.List.{List}
 use lib.ListN.{length, getD, set}
+use Rattle.plan.specs.declared.Found.the-variants.{Nothing}
 use Rattle.plan.specs.declared.Table.the-variants.{Tasks, Pieces}
 use Rattle.plan.specs.Image.{rows, cycleTicks, piece}
-use Rattle.plan.specs.Search.{sum, largest, smallest}
-use Rattle.plan.specs.Questions.{jobs, ofJob, pieceEnd, firstStart, lastEnd}
+use Rattle.plan.specs.Search.{all, sum, firstNo}
+use Rattle.plan.specs.Questions.{jobs, switchTicks, pieceEnd, firstStart, lastEnd, jobBudget, taskBudget}
+use Rattle.tallies.specs.Tallies.{tally, Kept}
 
--- the place of job k of task t among all jobs
+-- the place of job k of task t among all jobs; of a task's job 0 among the places; of a piece's job
 unfoldable pub place : List ℕ → ℕ → ℕ → ℕ
 place s t k = sum t (jobs s) + k
 
--- the words have their length, and the tasks' places are written
-pub record Placed (s times : List ℕ) : Type 0 where
-  pub size : length times ≡ 4352
-  pub tasks : rows s Tasks ≤ 256
-  pub places : (t : ℕ) → t < rows s Tasks → getD times t 0 ≡ sum t (jobs s)
+unfoldable pub taskPlace : List ℕ → ℕ → ℕ
+taskPlace s t = min 2048 (sum t (jobs s))
 
--- no piece has been taken in: of the first n places every first start is the cycle's end and every last end 0
+unfoldable pub piecePlace : List ℕ → ℕ → ℕ
+piecePlace s i = taskPlace s (piece s i .task) + piece s i .job
+
+-- a piece's work: its ticks less the task switch
+unfoldable pub workOf : List ℕ → ℕ → ℕ
+workOf s i = piece s i .length - switchTicks s (piece s i .task)
+
+-- the words have their length, and the places of the first n tasks are written
+pub record Placed (s times : List ℕ) (n : ℕ) : Type 0 where
+  pub size : length times ≡ 6400
+  pub places : (t : ℕ) → t < n → getD times t 0 ≡ taskPlace s t
+
+-- no piece has been taken in: of the first n places every first start is the cycle's end, and every last end and work 0
 pub record Cleared (cycle : ℕ) (times : List ℕ) (n : ℕ) : Type 0 where
-  pub size : length times ≡ 4352
-  pub firsts : (p : ℕ) → p < n → getD times (256 + p) 0 ≡ cycle
-  pub lasts : (p : ℕ) → p < n → getD times (2304 + p) 0 ≡ 0
+  pub size : length times ≡ 6400
+  pub firsts : Kept times 256 n (λ _. cycle)
+  pub lasts : Kept times 2304 n (λ _. 0)
+  pub works : Kept times 4352 n (λ _. 0)
 
 -- a piece from start to end is taken into the job at place p
-unfoldable pub takenAt : List ℕ → ℕ → ℕ → ℕ → List ℕ
-takenAt times p start end =
-    set (set times (256 + p) (min (getD times (256 + p) 0) start)) (2304 + p) (max (getD times (2304 + p) 0) end)
+unfoldable pub takenAt : List ℕ → ℕ → ℕ → ℕ → ℕ → List ℕ
+takenAt times p start end work =
+    set (set (set times (256 + p) (min (getD times (256 + p) 0) start)) (2304 + p) (max (getD times (2304 + p) 0) end)) (4352 + p) (getD times (4352 + p) 0 + work)
 
 -- the first n pieces have been taken in
 pub record Gathered (s times : List ℕ) (n : ℕ) : Type 0 where
-  pub placed : Placed s times
-  pub firsts : (t k : ℕ) → t < rows s Tasks → k < jobs s t
-      → getD times (256 + place s t k) 0 ≡ smallest (cycleTicks s) n (λ i. cond (ofJob s t k i) (piece s i .start) (cycleTicks s))
-  pub lasts : (t k : ℕ) → t < rows s Tasks → k < jobs s t
-      → getD times (2304 + place s t k) 0 ≡ largest n (λ i. cond (ofJob s t k i) (pieceEnd s i) 0)
+  pub placed : Placed s times (rows s Tasks)
+  pub firsts : Kept times 256 2048 (tally min (cycleTicks s) (piecePlace s) (λ i. piece s i .start) n)
+  pub lasts : Kept times 2304 2048 (tally max 0 (piecePlace s) (pieceEnd s) n)
+  pub works : Kept times 4352 2048 (tally _+_ 0 (piecePlace s) (workOf s) n)
 
 -- all have
+abbrev pub AllGathered : List ℕ → List ℕ → Type 0
+AllGathered s times = Gathered s times (rows s Pieces)
+
+-- 13, asked of a task after all before it, and of a job after all before it
+abbrev pub TasksBefore : List ℕ → ℕ → Type 0
+TasksBefore s t = firstNo t (taskBudget s) ≡ Nothing
+
+abbrev pub JobsBefore : List ℕ → ℕ → ℕ → Type 0
+JobsBefore s t k = TasksBefore s t × (all k (jobBudget s t) ≡ true)
+
+-- 13 is passed: every job has its place, and the times are those of the definitions
 pub record Timed (s times : List ℕ) : Type 0 where
-  pub placed : Placed s times
+  pub placed : Placed s times (rows s Tasks)
+  pub few : rows s Tasks ≤ 256
   pub room : sum (rows s Tasks) (jobs s) ≤ 2048
   pub firsts : (t k : ℕ) → t < rows s Tasks → k < jobs s t → getD times (256 + place s t k) 0 ≡ firstStart s t k
   pub lasts : (t k : ℕ) → t < rows s Tasks → k < jobs s t → getD times (2304 + place s t k) 0 ≡ lastEnd s t k

@@ -1,27 +1,35 @@
-// The first start and the last end of every job (paper 01, "The plan image"), gathered in one pass over the pieces into words
-// that the caller lends (specs/Times.antt says where each stands).
+// The first start, the last end and the work of every job (paper 01, "The plan image"), gathered in one pass over the pieces into words
+// that the caller lends (specs/Times.antt says where each stands), and question 13.
 ghost use mathlib.Core.Path.{_≡_};
-ghost use Prim.Native.Nat.{ℕ, _+_, _<_, _≤_, min, max};
+ghost use Prim.Native.Nat.{_+_, _^_, _<_, min, max};
 ghost use lib.ListN.{length, getD};
 ghost use Rattle.plan.specs.declared.Table.the-variants.{Tasks, Pieces};
 ghost use Rattle.plan.specs.Image.{rows, cycleTicks};
-ghost use Rattle.plan.specs.Search.{sum};
-ghost use Rattle.plan.specs.Questions.{jobs, firstStart, lastEnd, pieceQuestions};
+ghost use Rattle.plan.specs.Search.{firstNo};
+ghost use Rattle.plan.specs.Questions.{jobs, firstStart, lastEnd, jobBudget, taskBudget, pieceQuestions};
 ghost use Rattle.plan.specs.Held.{Sound, Passed};
-ghost use Rattle.jobs.specs.Times.{Cleared, takenAt, Gathered, Timed};
+ghost use Rattle.jobs.specs.Times.{Cleared, takenAt, Gathered, AllGathered, TasksBefore, JobsBefore, Timed};
+use plan::Found;
 use plan::Table;
 use tables::cycle_ticks;
 use tables::piece_at;
 use tables::rows_of;
+use tables::task_at;
 use terms::jobs_of;
 use terms::piece_end;
+use terms::switch_ticks;
 
-// How many words the times take: a place for each task, a first start and a last end for each job.
-pub const WORDS: usize = 4352;
+// How many words the times take: a place for each task; a first start, a last end and the work of each job.
+pub const WORDS: usize = 6400;
+
+// How many jobs have a place.
+const JOBS: usize = 2048;
 
 const FIRSTS: usize = 256;
 
 const LASTS: usize = 2304;
+
+const WORKS: usize = 4352;
 
 fn lesser(a: u32, b: u32) -> u32
     ensures { λ r. ⌜ r ≡ min a b ⌝ }
@@ -37,8 +45,7 @@ fn greater(a: u32, b: u32) -> u32
 
 // Writes the place of each task's job 0: the number of jobs of the tasks before it.
 fn place_tasks(image: &[u8], times: &mut [u32])
-    requires { ⌜ Sound (now image) × (sum (rows (now image) Tasks) (jobs (now image)) ≤ 2048) ⌝ }
-    requires { ⌜ Cleared (cycleTicks (now image)) (now times) 2048 ⌝ }
+    requires { ⌜ Sound (now image) × Cleared (cycleTicks (now image)) (now times) 2048 ⌝ }
     ensures { λ _. ⌜ Gathered (now (image .entry)) (now (times .exit)) 0 ⌝ }
 {
     let tasks = rows_of(image, Table::Tasks);
@@ -46,52 +53,58 @@ fn place_tasks(image: &[u8], times: &mut [u32])
     let mut task: u32 = 0;
     while task < tasks {
         times[task as usize] = place;
-        place += jobs_of(image, task);
+        place = lesser(JOBS as u32, place + jobs_of(image, task));
         task += 1;
     }
 }
 
-// Before any piece is taken in, a first start is the cycle's end and a last end is 0.
+// Before any piece is taken in, a first start is the cycle's end, and a last end and the work are 0.
 fn clear_jobs(times: &mut [u32], cycle: u32)
-    requires { ⌜ length (now times) ≡ 4352 ⌝ }
+    requires { ⌜ length (now times) ≡ 6400 ⌝ }
     ensures { λ _. ⌜ Cleared cycle (now (times .exit)) 2048 ⌝ }
 {
     let mut place: usize = 0;
-    while place < 2048 {
+    while place < JOBS {
         times[FIRSTS + place] = cycle;
         times[LASTS + place] = 0;
+        times[WORKS + place] = 0;
         place += 1;
     }
 }
 
 // Takes a piece from start to end into the job at a place.
-fn take_at(times: &mut [u32], place: usize, start: u32, end: u32)
-    requires { ⌜ (length (now times) ≡ 4352) × (place < 2048) ⌝ }
-    ensures { λ _. ⌜ now (times .exit) ≡ takenAt (now (times .entry)) place start end ⌝ }
+fn take_at(times: &mut [u32], place: usize, start: u32, end: u32, work: u32)
+    requires { ⌜ (length (now times) ≡ 6400) × ((place < 2048) × (getD (now times) (4352 + place) 0 + work < 2 ^ 32)) ⌝ }
+    ensures { λ _. ⌜ now (times .exit) ≡ takenAt (now (times .entry)) place start end work ⌝ }
 {
     let first = lesser(times[FIRSTS + place], start);
     let last = greater(times[LASTS + place], end);
+    let sum = times[WORKS + place] + work;
     times[FIRSTS + place] = first;
     times[LASTS + place] = last;
+    times[WORKS + place] = sum;
 }
 
-// Takes one piece in.
+// Takes one piece in, where its job has a place.
 fn take_in(image: &[u8], times: &mut [u32], piece: u32)
-    requires { ⌜ Sound (now image) × (Passed (pieceQuestions (now image)) 7 × (piece < rows (now image) Pieces)) ⌝ }
+    requires { ⌜ Sound (now image) × (Passed (pieceQuestions (now image)) 6 × (piece < rows (now image) Pieces)) ⌝ }
     requires { ⌜ Gathered (now image) (now times) piece ⌝ }
     ensures { λ _. ⌜ Gathered (now (image .entry)) (now (times .exit)) (piece + 1) ⌝ }
 {
     let p = piece_at(image, piece);
-    let end = piece_end(image, piece) as u32;
     let place = times[p.task as usize] as usize + p.job as usize;
-    take_at(times, place, p.start, end);
+    if place < JOBS {
+        let end = piece_end(image, piece) as u32;
+        let work = p.length - switch_ticks(image, p.task);
+        take_at(times, place, p.start, end, work);
+    }
 }
 
 // Takes all pieces in.
 fn take_all(image: &[u8], times: &mut [u32])
-    requires { ⌜ Sound (now image) × Passed (pieceQuestions (now image)) 7 ⌝ }
+    requires { ⌜ Sound (now image) × Passed (pieceQuestions (now image)) 6 ⌝ }
     requires { ⌜ Gathered (now image) (now times) 0 ⌝ }
-    ensures { λ _. ⌜ Timed (now (image .entry)) (now (times .exit)) ⌝ }
+    ensures { λ _. ⌜ AllGathered (now (image .entry)) (now (times .exit)) ⌝ }
 {
     let pieces = rows_of(image, Table::Pieces);
     let mut piece: u32 = 0;
@@ -101,15 +114,61 @@ fn take_all(image: &[u8], times: &mut [u32])
     }
 }
 
-// Gathers the times of a plan that has passed questions 1 to 13.
+// Gathers the times of a plan that has passed questions 1 to 12.
 pub fn gather(image: &[u8], times: &mut [u32])
-    requires { ⌜ Sound (now image) × (Passed (pieceQuestions (now image)) 7 × (length (now times) ≡ 4352)) ⌝ }
-    ensures { λ _. ⌜ Timed (now (image .entry)) (now (times .exit)) ⌝ }
+    requires { ⌜ Sound (now image) × (Passed (pieceQuestions (now image)) 6 × (length (now times) ≡ 6400)) ⌝ }
+    ensures { λ _. ⌜ AllGathered (now (image .entry)) (now (times .exit)) ⌝ }
 {
     let cycle = cycle_ticks(image);
     clear_jobs(times, cycle);
     place_tasks(image, times);
     take_all(image, times);
+}
+
+// 13: is the job's work its task's budget? All jobs before it have theirs, and so a piece each: a job past the places has none left.
+fn job_budget(image: &[u8], times: &[u32], task: u32, job: u32) -> bool
+    requires { ⌜ Sound (now image) × (Passed (pieceQuestions (now image)) 6 × AllGathered (now image) (now times)) ⌝ }
+    requires { ⌜ (task < rows (now image) Tasks) × ((job < jobs (now image) task) × JobsBefore (now image) task job) ⌝ }
+    ensures { λ r. ⌜ r ≡ jobBudget (now (image .entry)) task job ⌝ }
+{
+    let place = times[task as usize] as usize + job as usize;
+    if JOBS <= place {
+        return false;
+    }
+    times[WORKS + place] == task_at(image, task).budget
+}
+
+// 13: have all jobs of the task? The search ends at a job without its budget, so that it goes no further than there are pieces.
+fn task_budget(image: &[u8], times: &[u32], task: u32) -> bool
+    requires { ⌜ Sound (now image) × (Passed (pieceQuestions (now image)) 6 × AllGathered (now image) (now times)) ⌝ }
+    requires { ⌜ (task < rows (now image) Tasks) × TasksBefore (now image) task ⌝ }
+    ensures { λ r. ⌜ r ≡ taskBudget (now (image .entry)) task ⌝ }
+{
+    let jobs = jobs_of(image, task);
+    let mut job: u32 = 0;
+    while job < jobs {
+        if !job_budget(image, times, task, job) {
+            return false;
+        }
+        job += 1;
+    }
+    true
+}
+
+// 13: the lowest task with a job that has not its budget.
+pub fn first_off_budget(image: &[u8], times: &[u32]) -> Found
+    requires { ⌜ Sound (now image) × (Passed (pieceQuestions (now image)) 6 × AllGathered (now image) (now times)) ⌝ }
+    ensures { λ r. ⌜ r ≡ firstNo (rows (now (image .entry)) Tasks) (taskBudget (now (image .entry))) ⌝ }
+{
+    let tasks = rows_of(image, Table::Tasks);
+    let mut task: u32 = 0;
+    while task < tasks {
+        if !task_budget(image, times, task) {
+            return Found::At(task);
+        }
+        task += 1;
+    }
+    Found::Nothing
 }
 
 // A job's first start.

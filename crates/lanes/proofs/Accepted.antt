@@ -1,4 +1,4 @@
--- What an accepted plan gives besides the facts by name: rows that take up ticks end in the cycle and are apart where they share a place.
+-- What an accepted plan gives besides the facts by name: rows that take up ticks lie in the cycle and rise by start.
 use Prim.Native.Nat.{ℕ, _+_, _*_, _≤_, _<_}
 use mathlib.Core.Path.{_≡_}
 use mathlib.Core.List.{List}
@@ -6,15 +6,14 @@ use native.Mathlib.Nat.{le-div-iff-mul-le}
 use native.Mathlib.Omega.{arith}
 use Rattle.plan.specs.declared.Table.the-variants.{Tasks, Windows, Pieces, Streams, Frames}
 use Rattle.plan.specs.Image.{rows, cycleTicks, piece, task, window, stream, frame}
-use Rattle.plan.specs.Search.{Interval}
-use Rattle.plan.specs.Questions.{answerOf, accepted, jobs, streamPeriod, pieceEnd, windowEnd, frameEnd, switchTicks, charge, windowInterval, pieceInterval, frameInterval}
-use Rattle.plan.specs.Reading as R
-use Rattle.plan.specs.Reading.{Apart}
+use Rattle.plan.specs.Questions.{answerOf, accepted, jobs, streamPeriod, pieceEnd, windowEnd, frameEnd, switchTicks, charge}
+use Rattle.plan.specs.Held.{Sound}
 use Rattle.plan.proofs.Sounds.{accepted-sound}
 use Rattle.plan.proofs.Facts.{Facts, facts}
-use Rattle.lanes.specs.Taken.{tableFor, placeOf, fromOf, toOf}
-use Rattle.lanes.specs.declared.Occupant.{Occupant}
-use Rattle.lanes.specs.declared.Occupant.the-variants.{Piece, Window, Frame}
+use Rattle.plan.proofs.Orders.{pieces-rise, windows-rise, frames-rise}
+use Rattle.places.specs.declared.Occupant.{Occupant}
+use Rattle.places.specs.declared.Occupant.the-variants.{Piece, Window, Frame}
+use Rattle.places.specs.Places.{tableFor, fromOf, toOf}
 
 -- ---- rows that take up ticks
 
@@ -38,15 +37,22 @@ module _ (s : List ℕ) (f : Facts s) where
   ends Window w l = f .windowFits w l .1
   ends Frame i l = frame-end i l
 
-  abbrev pub span : Occupant → ℕ → Interval
-  span o i = record { from = fromOf s o i; to = toOf s o i }
+  -- and begin in it
+  begins-low : (o : Occupant) (i : ℕ) → fromOf s o i ≤ toOf s o i
+  unfolding fromOf toOf pieceEnd windowEnd frameEnd
+  begins-low Piece i = omega arith
+  begins-low Window i = omega arith
+  begins-low Frame i = omega arith
 
-  -- 8, 12, 19
-  pub apart : (o : Occupant) (i : ℕ) → i < rows s (tableFor o) → (q : ℕ) → q < i → placeOf s o q ≡ placeOf s o i → Apart (span o q) (span o i)
-  unfolding tableFor placeOf fromOf toOf windowInterval pieceInterval frameInterval
-  apart Piece i l q k e = f .pieceApart i l q k e
-  apart Window i l q k e = f .windowApart i l q k e
-  apart Frame i l q k e = f .frameApart i l q k e
+  pub begins-within : (o : Occupant) (i : ℕ) → i < rows s (tableFor o) → fromOf s o i ≤ cycleTicks s
+  begins-within o i l = omega (arith, begins-low o i, ends o i l)
+
+-- 32: they rise by start
+pub rises : (s : List ℕ) → Sound s → (o : Occupant) (q r : ℕ) → q ≤ r → r < rows s (tableFor o) → fromOf s o q ≤ fromOf s o r
+unfolding tableFor fromOf
+rises s h Piece q r l m = pieces-rise s h q r l m
+rises s h Window q r l m = windows-rise s h q r l m
+rises s h Frame q r l m = frames-rise s h q r l m
 
 -- ---- sums of ticks are small
 

@@ -9,48 +9,15 @@ use lib.ListN.{length, drop, set}
 use lib.Dec.{ltb, leb}
 use borrow.Author.Tests.{lt-ltb, le-ltb, le-leb, lt-leb, ne-eqb}
 use Rattle.plan.specs.declared.Answer.{Answer}
-use Rattle.plan.specs.declared.Table.{Table}
-use Rattle.plan.specs.Image.{tables, cycleTicks}
+use Rattle.plan.specs.Image.{cycleTicks}
 use Rattle.plan.specs.Search.{firstNo}
-use Rattle.plan.specs.Questions.{Question, names, inRange, whole, each, eachTable, imageQuestions, pieceQuestions, streamQuestions, bufferQuestions, chainQuestions, planQuestions, questions, answerTo, answerOf, accepted}
+use Rattle.plan.specs.Questions.{Question, whole, questions, answerTo, answerOf, accepted}
 use Rattle.plan.specs.Dispatch.{lanes, entries, entryCount, tableOf, buildAnswer, built}
-use Rattle.plan.proofs.Asking.{Real, then-asked, stopped-first, passed-of, passed-all}
+use Rattle.plan.proofs.Numbers.{real, accepted-of}
+use Rattle.plan.proofs.Asking.{then-asked, stopped-first}
 use Rattle.plan.proofs.Tables.{entries-length}
 use Rattle.lanes.specs.Words.{putAt, Filled}
 use Rattle.lanes.proofs.Writing.{put-head}
-
--- ---- every question has a number
-
-real-append : (ps qs : List Question) → Real ps → Real qs → Real (ps ++ qs)
-real-append [] qs g h = h
-real-append (p ∷ ps) qs g h = (g .0, real-append ps qs (g .1) h)
-
-module _ (s : List ℕ) where
-  real-tables : (q : ℕ) → 1 ≤ q → (ts : List Table) (ok : Table → ℕ → Bool) → Real (eachTable s q ts ok)
-  unfolding eachTable each
-  real-tables q l [] ok = tt
-  real-tables q l (t ∷ ts) ok = (l, real-tables q l ts ok)
-
-  real-image : Real (imageQuestions s)
-  unfolding imageQuestions whole
-  real-image = omega arith
-
-  real-plan : Real (planQuestions s)
-  unfolding planQuestions pieceQuestions streamQuestions bufferQuestions chainQuestions each
-  real-plan = omega arith
-
-  pub real : Real (questions s)
-  unfolding questions
-  real =
-      let q5 = eachTable s 5 tables (names s) in let q6 = eachTable s 6 tables (inRange s) in
-      let a = real-append (imageQuestions s) q5 real-image (real-tables 5 (omega arith) tables (names s)) in
-      let b = real-append (imageQuestions s ++ q5) q6 a (real-tables 6 (omega arith) tables (inRange s)) in
-      real-append (imageQuestions s ++ q5 ++ q6) (planQuestions s) b real-plan
-
-  -- a check that gives 0 has accepted
-  pub accepted-of : answerOf s .number ≡ 0 → answerOf s ≡ accepted
-  unfolding answerOf
-  accepted-of e = passed-all (questions s) (passed-of (questions s) real e)
 
 -- ---- a question about the call itself
 

@@ -1,5 +1,5 @@
 pub mod Accepted
-pub mod Searches
+pub mod Looking
 pub mod Stretches
 pub mod Walking
 pub mod Writing

@@ -13,9 +13,10 @@ use Rattle.plan.specs.Questions.{charge}
 use Rattle.plan.specs.Dispatch.{show, pieceAt, windowAt, frameAt, onCore, onLink, shownAt}
 use Rattle.plan.proofs.Facts.{Facts}
 use Rattle.plan.proofs.Shows.{core-piece, core-lane, link-lane}
-use Rattle.lanes.specs.Taken.{tableFor, placeOf, fromOf, toOf, covers, takenBy, TakenFrom, FreeFrom}
+use Rattle.places.specs.declared.Occupant.the-variants.{Piece, Window, Frame}
+use Rattle.places.specs.Places.{tableFor, placeOf, fromOf, toOf}
+use Rattle.lanes.specs.Taken.{covers, takenBy, TakenFrom, FreeFrom}
 use Rattle.lanes.specs.Walks.{stretchAt, idleStretch, pieceStretch, windowStretch, frameStretch, Shows}
-use Rattle.lanes.specs.declared.Occupant.the-variants.{Piece, Window, Frame}
 use Rattle.lanes.specs.declared.Stretch.{Stretch}
 
 idle-shows : (n x : ℕ) → stretchAt (idleStretch n) x ≡ show 0 0

@@ -7,14 +7,19 @@ use native.Mathlib.Omega.{arith}
 use native.Mathlib.Decide.{decLt}
 use lib.Dec.{eqb, eqb·suc-zero}
 use borrow.Author.Tests.{lt-ltb, le-ltb, eq-eqb, ne-eqb}
-use Rattle.plan.specs.Image.{cycleTicks}
+use Rattle.plan.specs.declared.Table.the-variants.{Cores}
+use Rattle.plan.specs.Image.{rows, cycleTicks}
 use Rattle.plan.specs.Search.{count}
 use Rattle.plan.specs.Dispatch.{Shown, show, same, shownAt, begins, entries}
 use Rattle.plan.proofs.Counting.{count-next, count-same}
-use Rattle.lanes.specs.Walks.{stretchAt, idleStretch, segmentOf, Ahead, Shows, startWalk, Reached, StepFrom}
+use Rattle.lanes.specs.Walks.{stretchAt, idleStretch, segmentOf, Ahead, Shows, Keeps, Sees, Reached, StepFrom}
 use Rattle.lanes.specs.declared.Stretch.{Stretch}
 use Rattle.lanes.specs.declared.Segment.{Segment}
+use Rattle.lanes.specs.declared.Cursors.{Cursors}
+use Rattle.lanes.specs.declared.View.{View}
 use Rattle.lanes.specs.declared.Walk.{Walk}
+use Rattle.places.specs.declared.Occupant.the-variants.{Piece, Window, Frame}
+use Rattle.lanes.proofs.Looking.{cursor-later}
 
 -- ---- segments
 
@@ -114,16 +119,25 @@ module _ (s : List ℕ) (lane : ℕ) where
 
   -- ---- a walk
 
-  pub started : Reached s lane startWalk
-  unfolding startWalk idleStretch
-  started =
+  -- cursors that point to where a lane is do so later on
+  keeps-later : {t u : ℕ} {k : Cursors} → t ≤ u → Keeps s lane t k → Keeps s lane u k
+  keeps-later l h =
+      record {
+        core = λ b. let p = h .core b in (cursor-later s Piece lane l (p .0), cursor-later s Window lane l (p .1));
+        link = λ b. cursor-later s Frame (lane - rows s Cores) l (h .link b);
+      }
+
+  pub started : (w : Walk) → w .until ≡ 0 → w .view .stretch ≡ idleStretch 0 → Keeps s lane 0 (w .view .cursors) → Reached s lane w
+  unfolding idleStretch
+  started w e q k =
       record {
         within = omega arith;
         last = λ l. absurd (omega arith);
-        ahead = record { within = omega arith; shows = λ x lo hi. absurd (omega arith) };
+        ahead = rw q (record { within = omega arith; shows = λ x lo hi. absurd (omega arith) });
+        keeps = rw e k;
       }
 
-  pub steps : (w : Walk) (r : Stretch) (g : Segment) → Reached s lane w → Shows (shownAt s lane) (w .until) (cycleTicks s) r → g ≡ segmentOf r (w .until)
+  pub steps : (w : Walk) (v : View) (g : Segment) → Reached s lane w → Sees s lane (w .until) v → g ≡ segmentOf (v .stretch) (w .until)
       → StepFrom s lane (w .until)
       (record {
         from = w .until;
@@ -131,20 +145,21 @@ module _ (s : List ℕ) (lane : ℕ) where
         kind = g .kind;
         row = g .row;
         begins = eqb (w .until) 0 || not (eqb (g .kind) (w .kind) && eqb (g .row) (w .row));
-        stretch = r;
+        view = v;
       })
   unfolding same show
-  steps w r g v h e =
-      let k : Holds (shownAt s lane) (w .until) (cycleTicks s) r h g = rw e (segment (shownAt s lane) (w .until) (cycleTicks s) r h) in
+  steps w v g d h e =
+      let k : Holds (shownAt s lane) (w .until) (cycleTicks s) (v .stretch) (h .shows) g = rw e (segment (shownAt s lane) (w .until) (cycleTicks s) (v .stretch) (h .shows)) in
       record {
         from = refl;
         after = k .after;
         shows = k .shows;
-        begins = sym (begins-by (w .until) (k .shows (w .until) (omega arith) (k .after)) (v .last));
+        begins = sym (begins-by (w .until) (k .shows (w .until) (omega arith) (k .after)) (d .last));
         reached =
             record {
-              within = omega (arith, k .inside, h .ahead .within);
+              within = omega (arith, k .inside, h .shows .ahead .within);
               last = λ _. k .shows (g .until - 1) (omega (arith, k .after)) (omega (arith, k .after));
-              ahead = further (omega (arith, k .after)) (h .ahead);
+              ahead = further (omega (arith, k .after)) (h .shows .ahead);
+              keeps = keeps-later (omega (arith, k .after)) (h .keeps);
             };
       }

@@ -2,16 +2,23 @@
 -- shows is what the lane shows, and that it goes on.
 use Prim.Native.Nat.{ℕ, _+_, _-_, _≤_, _<_, min}
 use mathlib.Core.Path.{_≡_}
-use mathlib.Core.Bool.{false, cond}
+use mathlib.Core.Bool.{cond}
 use mathlib.Core.List.{List}
 use lib.Dec.{ltb}
-use Rattle.plan.specs.Image.{cycleTicks, piece, window}
-use Rattle.plan.specs.Questions.{pieceEnd, switchTicks, windowEnd, charge, frameEnd}
+use Rattle.plan.specs.declared.Table.the-variants.{Cores}
+use Rattle.plan.specs.Image.{rows, cycleTicks, piece, window}
+use Rattle.plan.specs.Questions.{pieceEnd, switchTicks, windowEnd, charge, frameEnd, answerOf, accepted}
 use Rattle.plan.specs.Dispatch as D
 use Rattle.plan.specs.Dispatch.{Shown, show, shownAt}
 use Rattle.lanes.specs.declared.Stretch.{Stretch}
 use Rattle.lanes.specs.declared.Segment.{Segment}
+use Rattle.lanes.specs.declared.Cursors.{Cursors}
+use Rattle.lanes.specs.declared.View.{View}
 use Rattle.lanes.specs.declared.Walk.{Walk}
+use Rattle.lanes.specs.Taken.{Cursor}
+use Rattle.charges.specs.Charges.{Charged}
+use Rattle.places.specs.declared.Occupant.the-variants.{Piece, Window, Frame}
+use Rattle.places.specs.Index.{Indexed}
 
 -- what a stretch shows at tick x
 unfoldable pub stretchAt : Stretch → ℕ → Shown
@@ -50,16 +57,29 @@ module _ (shown : ℕ → Shown) (t ticks : ℕ) where
 
 -- ---- a walk along a lane
 
--- before tick 0
-unfoldable pub startWalk : Walk
-startWalk = record { from = 0; until = 0; kind = 0; row = 0; begins = false; stretch = idleStretch 0 }
+-- an accepted plan, its windows' charges, and its rows place by place
+pub record Gathered (s charges index : List ℕ) : Type 0 where
+  pub passed : answerOf s ≡ accepted
+  pub charged : Charged s charges
+  pub indexed : Indexed s index
 
 module _ (s : List ℕ) (lane : ℕ) where
+  -- cursors point to where a lane is at tick t: to a piece and a window of its core, or to a frame of its link
+  pub record Keeps (t : ℕ) (k : Cursors) : Type 0 where
+    pub core : lane < rows s Cores → Cursor s Piece lane t (k .piece) × Cursor s Window lane t (k .window)
+    pub link : rows s Cores ≤ lane → Cursor s Frame (lane - rows s Cores) t (k .frame)
+
+  -- a view is right from tick t on
+  pub record Sees (t : ℕ) (v : View) : Type 0 where
+    pub shows : Shows (shownAt s lane) t (cycleTicks s) (v .stretch)
+    pub keeps : Keeps t (v .cursors)
+
   -- a walk's last tick, and what is known from there on
   pub record Reached (w : Walk) : Type 0 where
     pub within : w .until ≤ cycleTicks s
     pub last : 1 ≤ w .until → shownAt s lane (w .until - 1) ≡ show (w .kind) (w .row)
-    pub ahead : Ahead (shownAt s lane) (w .until) (cycleTicks s) (w .stretch)
+    pub ahead : Ahead (shownAt s lane) (w .until) (cycleTicks s) (w .view .stretch)
+    pub keeps : Keeps (w .until) (w .view .cursors)
 
   -- a walk after a step from tick t
   pub record StepFrom (t : ℕ) (w : Walk) : Type 0 where

@@ -1,17 +1,17 @@
 -- The ten tables one after another: what the loops over them need.
-use Prim.Native.Nat.{ℕ, zero, suc, _+_, _≤_, _<_}
-use mathlib.Core.Path.{_≡_, refl, sym, ap, _∙_}
-use mathlib.Core.Bool.{Bool, true, false, _&&_}
-use mathlib.Core.List.{List, _∷_, []}
+use Prim.Native.Nat.{ℕ, _+_, _<_}
+use mathlib.Core.Path.{_≡_, refl, _∙_}
+use mathlib.Core.Bool.{Bool, true, false}
+use mathlib.Core.List.{List, _∷_}
 use native.Mathlib.Numerals.{add-one}
 use native.Mathlib.Omega.{arith}
-use lib.Dec.{leb, eqb}
-use lib.ListN.{length, getD, drop}
+use lib.Dec.{eqb}
+use lib.ListN.{length, drop}
 use lib.Seq.{drop-cons}
 use Rattle.plan.specs.declared.Table.{Table}
 use Rattle.plan.specs.declared.Table.the-variants.{Cores}
-use Rattle.plan.specs.Image.{tables, shape, offset, rows, tableEnd, trailerAt}
-use Rattle.plan.specs.Questions.{laid, Question, questionAt, each, eachTable}
+use Rattle.plan.specs.Image.{tables, tableEnd, trailerAt}
+use Rattle.plan.specs.Questions.{laid, questionAt, each, eachTable}
 use Rattle.plan.proofs.Asking.{between}
 use Rattle.layout.specs.Tests.{tableFits, tableAt}
 

@@ -1,12 +1,11 @@
 -- Questions 1 to 4, one after another.
-use Prim.Native.Nat.{ℕ, zero, suc, _-_, _≤_}
-use mathlib.Core.Path.{_≡_, refl, sym, ap, _∙_}
-use mathlib.Core.Bool.{Bool, true, false, _&&_}
+use Prim.Native.Nat.{ℕ, _-_, _≤_}
+use mathlib.Core.Path.{_≡_, refl, _∙_}
+use mathlib.Core.Bool.{Bool, true, false}
 use mathlib.Core.List.{List, _∷_, []}
 use lib.Dec.{eqb, leb}
 use lib.ListN.{length}
 use borrow.Author.Tests.{leb-true}
-use Rattle.plan.specs.declared.Answer.{Answer}
 use Rattle.plan.specs.Image.{tables, trailerBytes, mostBytes, wordAt}
 use Rattle.plan.specs.Search.{firstNo}
 use Rattle.plan.specs.Questions.{Question, whole, imageQuestions, answerTo, accepted}

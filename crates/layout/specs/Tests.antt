@@ -7,7 +7,7 @@ use lib.Dec.{eqb, leb}
 use Rattle.plan.specs.declared.Table.{Table}
 use Rattle.plan.specs.declared.Table.the-variants.{Cores}
 use Rattle.plan.specs.Image.{tables, shape, offset, rows, trailerBytes, mostBytes, cycleTicks, precision}
-use Rattle.plan.specs.Questions.{names, inRange, laid}
+use Rattle.plan.specs.Questions.{names, inOrder, inRange, laid}
 
 -- 1, 3, 4, as imageQuestions asks them
 unfoldable pub lengthFits : List ℕ → Bool
@@ -26,6 +26,6 @@ ticksFit s = leb 1 (cycleTicks s) && leb (cycleTicks s) 1000000 && leb (precisio
 unfoldable pub tableAt : ℕ → Table
 tableAt i = getD tables i Cores
 
--- 5 or 6, of a row
+-- 5, 32 or 6, of a row
 unfoldable pub rowTest : List ℕ → ℕ → Table → ℕ → Bool
-rowTest s n = cond (eqb n 5) (names s) (inRange s)
+rowTest s n = cond (eqb n 5) (names s) (cond (eqb n 32) (inOrder s) (inRange s))

@@ -1,11 +1,13 @@
-// Questions 1 to 6 (paper 01, "The questions"): the image as a whole, row numbers and values.
+// Questions 1 to 6 (paper 01, "The questions") and 32 (paper 02, request 5): the image as a whole, row numbers, order and values.
 ghost use mathlib.Core.Path.{_≡_};
 ghost use Prim.Native.Nat.{_<_, _≤_, _-_};
 ghost use lib.ListN.{length};
-ghost use lib.Dec.{eqb};
+ghost use lib.Dec.{eqb, ltb};
+ghost use mathlib.Core.Bool.{_&&_, _||_};
 ghost use Rattle.plan.specs.declared.Table.the-variants.{Cores, Vcpus, Tasks, Windows, Pieces, Links, Streams, Frames, Buffers};
 ghost use Rattle.plan.specs.Image.{tables, rows, trailerBytes, wordAt};
-ghost use Rattle.plan.specs.Questions.{laid, names, inRange, imageQuestions, eachTable, answerTo};
+ghost use Rattle.plan.specs.Questions.{laid, names, orderWords, inOrder, inRange, imageQuestions, eachTable, answerTo};
+ghost use Rattle.plan.specs.Search as Search;
 ghost use Rattle.plan.specs.Search.{firstNo};
 ghost use Rattle.plan.specs.Held.{InImage};
 ghost use Rattle.layout.specs.Tests.{lengthFits, tableFits, laidOut, ticksFit, tableAt, rowTest};
@@ -296,13 +298,86 @@ fn row_range(image: &[u8], table: Table, row: u32) -> bool
     }
 }
 
-// Does a row pass question 5 or 6?
+// 32: is a word higher than that of the row before, or equal with the rest not below?
+fn rises(before: u32, word: u32, rest: bool) -> bool
+    ensures { λ r. ⌜ r ≡ (ltb before word || (eqb before word && rest)) ⌝ }
+{
+    (before < word) | ((before == word) & rest)
+}
+
+// 32, of a window: is it not below the one before it, by start and then word by word?
+fn window_rises(image: &[u8], row: u32) -> bool
+    requires { ⌜ InImage (now image) × ((1 ≤ row) × (row < rows (now image) Windows)) ⌝ }
+    ensures { λ r. ⌜ r ≡ Search.rises (orderWords (now (image .entry)) Windows (row - 1)) (orderWords (now (image .entry)) Windows row) ⌝ }
+{
+    let a = window_at(image, row - 1);
+    let b = window_at(image, row);
+    let length = rises(a.length, b.length, true);
+    let start = rises(a.start, b.start, length);
+    let vcpu = rises(a.vcpu, b.vcpu, start);
+    rises(a.start, b.start, vcpu)
+}
+
+// 32, of a piece.
+fn piece_rises(image: &[u8], row: u32) -> bool
+    requires { ⌜ InImage (now image) × ((1 ≤ row) × (row < rows (now image) Pieces)) ⌝ }
+    ensures { λ r. ⌜ r ≡ Search.rises (orderWords (now (image .entry)) Pieces (row - 1)) (orderWords (now (image .entry)) Pieces row) ⌝ }
+{
+    let a = piece_at(image, row - 1);
+    let b = piece_at(image, row);
+    let length = rises(a.length, b.length, true);
+    let start = rises(a.start, b.start, length);
+    let job = rises(a.job, b.job, start);
+    let task = rises(a.task, b.task, job);
+    rises(a.start, b.start, task)
+}
+
+// 32, of a frame.
+fn frame_rises(image: &[u8], row: u32) -> bool
+    requires { ⌜ InImage (now image) × ((1 ≤ row) × (row < rows (now image) Frames)) ⌝ }
+    ensures { λ r. ⌜ r ≡ Search.rises (orderWords (now (image .entry)) Frames (row - 1)) (orderWords (now (image .entry)) Frames row) ⌝ }
+{
+    let a = frame_at(image, row - 1);
+    let b = frame_at(image, row);
+    let start = rises(a.start, b.start, true);
+    let link = rises(a.link, b.link, start);
+    let hop = rises(a.hop, b.hop, link);
+    let job = rises(a.job, b.job, hop);
+    let stream = rises(a.stream, b.stream, job);
+    rises(a.start, b.start, stream)
+}
+
+// 32: is a row not below its predecessor? Row 0 has none, and other tables have no order.
+fn row_rises(image: &[u8], table: Table, row: u32) -> bool
+    requires { ⌜ InImage (now image) × (row < rows (now image) table) ⌝ }
+    ensures { λ r. ⌜ r ≡ inOrder (now (image .entry)) table row ⌝ }
+{
+    if row == 0 {
+        return true;
+    }
+    match table {
+        Table::Cores => true,
+        Table::Vcpus => true,
+        Table::Tasks => true,
+        Table::Windows => window_rises(image, row),
+        Table::Pieces => piece_rises(image, row),
+        Table::Links => true,
+        Table::Streams => true,
+        Table::Frames => frame_rises(image, row),
+        Table::Buffers => true,
+        Table::Chains => true,
+    }
+}
+
+// Does a row pass question 5, 32 or 6?
 fn passes(image: &[u8], number: u32, table: Table, row: u32) -> bool
     requires { ⌜ InImage (now image) × (row < rows (now image) table) ⌝ }
     ensures { λ r. ⌜ r ≡ rowTest (now (image .entry)) number table row ⌝ }
 {
     if number == 5 {
         row_names(image, table, row)
+    } else if number == 32 {
+        row_rises(image, table, row)
     } else {
         row_range(image, table, row)
     }
@@ -324,7 +399,7 @@ fn first_no(image: &[u8], number: u32, table: Table) -> Found
     Found::Nothing
 }
 
-// Question 5 or 6, over all tables.
+// Question 5, 32 or 6, over all tables.
 pub fn ask_tables(image: &[u8], number: u32) -> Answer
     requires { ⌜ InImage (now image) ⌝ }
     ensures { λ r. ⌜ r ≡ answerTo (eachTable (now (image .entry)) number tables (rowTest (now (image .entry)) number)) ⌝ }

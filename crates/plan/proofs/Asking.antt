@@ -1,12 +1,12 @@
 -- Asking a list of questions one after the other: what a loop over them needs.
 use Prim.Native.Nat.{ℕ, zero, suc, _+_, _≤_, _<_}
 use mathlib.Core.Path.{_≡_, refl, sym, ap, _∙_, subst}
-use mathlib.Core.Logic.{_⊎_, inl, inr, _≢_}
-use mathlib.Core.Bool.{Bool, true}
+use mathlib.Core.Logic.{_⊎_, inl, inr}
+use mathlib.Core.Bool.{true}
 use mathlib.Core.List.{List, _∷_, _++_, []}
 use native.Mathlib.Nat.{not-suc-le-zero, eq-or-lt-of-le, le-of-suc-le-suc}
 use native.Mathlib.Omega.{arith}
-use lib.ListN.{length, getD}
+use lib.ListN.{length}
 use Rattle.plan.specs.declared.Answer.{Answer}
 use Rattle.plan.specs.declared.Found.{Found}
 use Rattle.plan.specs.declared.Found.the-variants.{At, Nothing}
@@ -14,7 +14,7 @@ use Rattle.plan.specs.Search.{firstNo}
 use Rattle.plan.specs.Questions.{Question, questionAt, answerTo, accepted}
 use Rattle.plan.specs.Held.{Passed}
 use Rattle.plan.proofs.Searching.{none-iff}
-use Rattle.plan.proofs.Answers.{named, no-row, a-row, not-accepted}
+use Rattle.plan.proofs.Answers.{named, no-row, a-row}
 
 pub passed-none : (qs : List Question) → Passed qs 0
 passed-none qs j l = absurd (not-suc-le-zero l)

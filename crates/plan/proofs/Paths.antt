@@ -7,9 +7,9 @@ use native.Mathlib.Nat.{not-suc-le-zero, eq-or-lt-of-le, le-of-suc-le-suc}
 use native.Mathlib.Omega.{arith}
 use native.Mathlib.Decide.{decLt}
 use lib.Dec.{eqb}
-use borrow.Author.Tests.{not-true, not-false, eqb-true, eq-eqb, ne-eqb}
-use Rattle.plan.specs.Search.{any, all, count, leads}
-use Rattle.plan.proofs.Searching.{and-true, all-yes, yes-all, count-most}
+use borrow.Author.Tests.{not-true, eqb-true, eq-eqb}
+use Rattle.plan.specs.Search.{any, count, leads}
+use Rattle.plan.proofs.Searching.{and-true, count-most}
 use Rattle.plan.proofs.Tests.{or-cases, any-row, row-any, with-row, without-row, no-count}
 use Rattle.plan.proofs.Tables.{count-lt}
 

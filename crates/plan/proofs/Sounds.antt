@@ -1,14 +1,14 @@
--- What questions 1 to 6 show: the image is sound (specs/Held). An accepted plan's is.
-use Prim.Native.Nat.{ℕ, _+_, _*_, _≤_, _<_}
-use mathlib.Core.Path.{_≡_, refl, sym, ap, _∙_, subst}
+-- What questions 1 to 6 and 32 show: the image is sound (specs/Held). An accepted plan's is.
+use Prim.Native.Nat.{ℕ, _+_, _≤_, _<_}
+use mathlib.Core.Path.{_≡_}
 use mathlib.Core.List.{List, _∷_, _++_, []}
 use native.Mathlib.Omega.{arith}
 use lib.ListN.{length}
 use Rattle.plan.specs.declared.Table.{Table}
 use Rattle.plan.specs.declared.Table.the-variants.{Cores, Vcpus, Tasks, Windows, Pieces, Links, Streams, Frames, Buffers, Chains}
-use Rattle.plan.specs.Image.{tables, shape, rows, offset, tableEnd, trailerAt, trailerBytes, cycleTicks, precision}
+use Rattle.plan.specs.Image.{tables, shape, rows, offset, tableEnd, trailerAt}
 use Rattle.plan.specs.Questions.{answerOf, accepted}
-use Rattle.plan.specs.Reading.{Meaning, AllHold, Holds, meanings, imageMeanings, planMeanings, whole, each, eachTable, Laid, Names, InRange}
+use Rattle.plan.specs.Reading.{Meaning, AllHold, Holds, meanings, imageMeanings, rowMeanings, planMeanings, whole, each, eachTable, Laid, Names, InOrder, InRange}
 use Rattle.plan.specs.Held.{InImage, Sound}
 use Rattle.plan.proofs.Meanings.{accepted-means}
 
@@ -83,24 +83,25 @@ module _ (s : List ℕ) where
         ends = λ t. let e = f t in let d = trailer-low in omega (arith, e .1);
       }
 
-  pub sound : AllHold (imageMeanings s) → AllHold (eachTable s 5 tables (Names s)) → AllHold (eachTable s 6 tables (InRange s)) → Sound s
-  unfolding imageMeanings whole
-  sound h n r =
-      let c = h .1 .1 .1 .0 0 (omega arith) in
+  pub sound : AllHold (imageMeanings s) → AllHold (rowMeanings s) → Sound s
+  unfolding imageMeanings rowMeanings whole
+  sound h r =
+      let m5 = eachTable s 5 tables (Names s) in let m32 = eachTable s 32 tables (InOrder s) in let m6 = eachTable s 6 tables (InRange s) in
+      let n = left (m5 ++ m32) m6 r in let c = h .1 .1 .1 .0 0 (omega arith) in
       record {
         inside = in-image h;
         core = h .1 .1 .0 0 (omega arith) .0;
         cycle = c .0;
         cycle-most = c .1;
         clocks = c .2;
-        names = tableRows 5 (Names s) n;
-        ranges = tableRows 6 (InRange s) r;
+        names = tableRows 5 (Names s) (left m5 m32 n);
+        order = tableRows 32 (InOrder s) (right m5 m32 n);
+        ranges = tableRows 6 (InRange s) (right (m5 ++ m32) m6 r);
       }
 
   pub accepted-sound : answerOf s ≡ accepted → Sound s
   unfolding Holds meanings
   accepted-sound e =
-      let im = imageMeanings s in let m5 = eachTable s 5 tables (Names s) in let m6 = eachTable s 6 tables (InRange s) in
-      let h = left (im ++ m5 ++ m6) (planMeanings s) (accepted-means s .0 e) in
-      let p = left (im ++ m5) m6 h in
-      sound (left im m5 p) (right im m5 p) (right (im ++ m5) m6 h)
+      let im = imageMeanings s in let m = rowMeanings s in
+      let h = left (im ++ m) (planMeanings s) (accepted-means s .0 e) in
+      sound (left im m h) (right im m h)

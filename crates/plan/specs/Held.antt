@@ -5,7 +5,7 @@ use lib.ListN.{length}
 use Rattle.plan.specs.declared.Table.{Table}
 use Rattle.plan.specs.declared.Table.the-variants.{Cores}
 use Rattle.plan.specs.Image.{shape, trailerBytes, tableEnd, rows, cycleTicks, precision}
-use Rattle.plan.specs.Reading.{Names, InRange}
+use Rattle.plan.specs.Reading.{Names, InOrder, InRange}
 use Rattle.plan.specs.Search.{firstNo}
 use Rattle.plan.specs.Questions.{Question, questionAt}
 use Rattle.plan.specs.declared.Found.{Found}
@@ -18,7 +18,7 @@ pub record InImage (s : List ℕ) : Type 0 where
   pub counts : (t : Table) → rows s t ≤ shape t .most
   pub ends : (t : Table) → tableEnd s t ≤ length s
 
--- 1 to 6: besides, there is a core, H and P are in range, row numbers name rows, and values are in range
+-- 1 to 6 and 32: besides, there is a core, H and P are in range, row numbers name rows, rows are in order, and values are in range
 pub record Sound (s : List ℕ) : Type 0 where
   pub inside : InImage s
   pub core : 1 ≤ rows s Cores
@@ -26,6 +26,7 @@ pub record Sound (s : List ℕ) : Type 0 where
   pub cycle-most : cycleTicks s ≤ 1000000
   pub clocks : precision s ≤ 10000
   pub names : (t : Table) (r : ℕ) → r < rows s t → Names s t r
+  pub order : (t : Table) (r : ℕ) → r < rows s t → InOrder s t r
   pub ranges : (t : Table) (r : ℕ) → r < rows s t → InRange s t r
 
 -- the lowest row that says no to a question

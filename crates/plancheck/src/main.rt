@@ -5,6 +5,7 @@ ghost use Prim.Native.Nat.{_+_, _<_, _≤_};
 ghost use lib.ListN.{length};
 ghost use Rattle.plan.specs.Questions.{answerOf, accepted};
 ghost use Rattle.plan.specs.Dispatch.{lanes};
+ghost use Rattle.lanes.specs.Walks.{Gathered};
 use libc::STDIN_FILENO;
 use libc::STDOUT_FILENO;
 
@@ -45,23 +46,33 @@ fn print_table(lane: u32, words: &[u32]) {
     }
 }
 
-fn print_lane(image: &[u8], lane: u32)
-    requires { ⌜ (answerOf (now image) ≡ accepted) × (lane < lanes (now image)) ⌝ }
+fn print_lane(image: &[u8], charges: &[u32], index: &[u32], lane: u32)
+    requires { ⌜ Gathered (now image) (now charges) (now index) × (lane < lanes (now image)) ⌝ }
 {
     let mut words = [0u32; TABLE_WORDS];
-    lanes::fill(image, lane, &mut words);
+    lanes::fill(image, charges, index, lane, &mut words);
     print_table(lane, &words);
 }
 
-fn print_lanes(image: &[u8])
-    requires { ⌜ answerOf (now image) ≡ accepted ⌝ }
+fn print_lanes(image: &[u8], charges: &[u32], index: &[u32])
+    requires { ⌜ Gathered (now image) (now charges) (now index) ⌝ }
 {
     let count = building::lane_count(image);
     let mut lane: u32 = 0;
     while lane < count {
-        print_lane(image, lane);
+        print_lane(image, charges, index, lane);
         lane += 1;
     }
+}
+
+// Prints the tables of an accepted plan.
+fn print_tables(image: &[u8])
+    requires { ⌜ answerOf (now image) ≡ accepted ⌝ }
+{
+    let mut charges = [0u32; 1024];
+    let mut index = [0u32; 3776];
+    lanes::gather(image, &mut charges, &mut index);
+    print_lanes(image, &charges, &index);
 }
 
 fn print_all(image: &[u8]) {
@@ -70,7 +81,7 @@ fn print_all(image: &[u8]) {
     print_number(answer.table, b' ');
     print_number(answer.row, b'\n');
     if answer.number == 0 {
-        print_lanes(image);
+        print_tables(image);
     }
 }
 

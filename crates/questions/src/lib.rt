@@ -2,26 +2,25 @@
 ghost use mathlib.Core.Path.{_≡_};
 ghost use Prim.Native.Nat.{_+_};
 ghost use mathlib.Core.List.{_++_};
-ghost use Rattle.plan.specs.Questions.{planQuestions, pieceQuestions, streamQuestions, bufferQuestions, chainQuestions, answerTo, answerOf};
-ghost use Rattle.plan.specs.Held.{Sound, Passed};
+ghost use Rattle.plan.specs.Questions.{rowQuestions, planQuestions, pieceQuestions, streamQuestions, bufferQuestions, chainQuestions, answerTo, answerOf};
+ghost use Rattle.plan.specs.Held.{InImage, Sound, Passed};
+ghost use Rattle.jobs.specs.Times.{Timed};
 use plan::Answer;
 
 // Questions 14 to 24, and 29 to 31: with the times of all jobs at hand.
-fn ask_messages(image: &[u8]) -> Answer
-    requires { ⌜ Sound (now image) × Passed (pieceQuestions (now image)) 7 ⌝ }
+fn ask_messages(image: &[u8], times: &[u32]) -> Answer
+    requires { ⌜ Sound (now image) × (Passed (pieceQuestions (now image)) 7 × Timed (now image) (now times)) ⌝ }
     ensures { λ r. ⌜ r ≡ answerTo (streamQuestions (now (image .entry)) ++ (bufferQuestions (now (image .entry)) ++ chainQuestions (now (image .entry)))) ⌝ }
 {
-    let mut times = [0u32; 4352];
-    jobs::gather(image, &mut times);
-    let streams = streams::ask(image, &times);
+    let streams = streams::ask(image, times);
     if streams.number != 0 {
         return streams;
     }
-    let buffers = buffers::ask(image, &times);
+    let buffers = buffers::ask(image, times);
     if buffers.number != 0 {
         return buffers;
     }
-    chains::ask(image, &times)
+    chains::ask(image, times)
 }
 
 // Questions 7 to 24, and 29 to 31.
@@ -29,11 +28,28 @@ fn ask_plan(image: &[u8]) -> Answer
     requires { ⌜ Sound (now image) ⌝ }
     ensures { λ r. ⌜ r ≡ answerTo (planQuestions (now (image .entry))) ⌝ }
 {
-    let pieces = windows::ask(image);
+    let mut times = [0u32; 6400];
+    let pieces = windows::ask(image, &mut times);
     if pieces.number != 0 {
         return pieces;
     }
-    ask_messages(image)
+    ask_messages(image, &times)
+}
+
+// Questions 5, 32 and 6, over all tables.
+fn ask_rows(image: &[u8]) -> Answer
+    requires { ⌜ InImage (now image) ⌝ }
+    ensures { λ r. ⌜ r ≡ answerTo (rowQuestions (now (image .entry))) ⌝ }
+{
+    let names = layout::ask_tables(image, 5);
+    if names.number != 0 {
+        return names;
+    }
+    let order = layout::ask_tables(image, 32);
+    if order.number != 0 {
+        return order;
+    }
+    layout::ask_tables(image, 6)
 }
 
 // The first question answered no, with its table and row; 0 0 0 where all are answered yes.
@@ -44,13 +60,9 @@ pub fn check(image: &[u8]) -> Answer
     if whole.number != 0 {
         return whole;
     }
-    let names = layout::ask_tables(image, 5);
-    if names.number != 0 {
-        return names;
-    }
-    let values = layout::ask_tables(image, 6);
-    if values.number != 0 {
-        return values;
+    let rows = ask_rows(image);
+    if rows.number != 0 {
+        return rows;
     }
     ask_plan(image)
 }

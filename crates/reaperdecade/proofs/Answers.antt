@@ -1,10 +1,9 @@
 -- An answer in one number: it fits 64 bits, and its parts can be taken out again as the header's helpers do.
-use Prim.Native.Nat.{ℕ, _+_, _*_, _/_, _%_, _^_, _<_}
+use Prim.Native.Nat.{ℕ, _+_, _/_, _%_, _^_, _<_}
 use mathlib.Core.Path.{_≡_, refl}
 use mathlib.Core.Bool.{Bool}
 use mathlib.Core.List.{List, _∷_, _++_, []}
 use native.Mathlib.Omega.{arith}
-use lib.ListN.{length}
 use Rattle.plan.specs.declared.Answer.{Answer}
 use Rattle.plan.specs.declared.Found.{Found}
 use Rattle.plan.specs.declared.Found.the-variants.{At, Nothing}
@@ -12,7 +11,7 @@ use Rattle.plan.specs.declared.Table.{Table}
 use Rattle.plan.specs.declared.Table.the-variants.{Cores, Vcpus, Tasks, Windows, Pieces, Links, Streams, Frames, Buffers, Chains}
 use Rattle.plan.specs.Image.{shape, tables}
 use Rattle.plan.specs.Search.{firstNo}
-use Rattle.plan.specs.Questions.{Question, whole, each, eachTable, names, inRange, imageQuestions, pieceQuestions, streamQuestions, bufferQuestions, chainQuestions, planQuestions, questions, answerTo, answerOf}
+use Rattle.plan.specs.Questions.{Question, whole, each, eachTable, names, inOrder, inRange, imageQuestions, rowQuestions, pieceQuestions, streamQuestions, bufferQuestions, chainQuestions, planQuestions, questions, answerTo, answerOf}
 use Rattle.plan.specs.Dispatch.{buildAnswer}
 use Rattle.plan.specs.Boundary.{answerNumber}
 use Rattle.writing.specs.AllTables.{allAnswer}
@@ -75,16 +74,18 @@ module _ (s : List ℕ) where
       buffers-narrow)
       chains-narrow
 
+  rows-narrow : Narrow (rowQuestions s)
+  unfolding rowQuestions
+  rows-narrow =
+      let q5 = eachTable s 5 tables (names s) in let q32 = eachTable s 32 tables (inOrder s) in let q6 = eachTable s 6 tables (inRange s) in
+      narrow-append (q5 ++ q32) q6
+      (narrow-append q5 q32 (tables-narrow s 5 tables (names s) (omega arith)) (tables-narrow s 32 tables (inOrder s) (omega arith)))
+      (tables-narrow s 6 tables (inRange s) (omega arith))
+
   questions-narrow : Narrow (questions s)
   unfolding questions
   questions-narrow =
-      let names-ask = eachTable s 5 tables (names s) in
-      let ranges-ask = eachTable s 6 tables (inRange s) in
-      narrow-append (imageQuestions s ++ names-ask ++ ranges-ask) (planQuestions s)
-      (narrow-append (imageQuestions s ++ names-ask) ranges-ask
-      (narrow-append (imageQuestions s) names-ask image-narrow (tables-narrow s 5 tables (names s) (omega arith)))
-      (tables-narrow s 6 tables (inRange s) (omega arith)))
-      plan-narrow
+      narrow-append (imageQuestions s ++ rowQuestions s) (planQuestions s) (narrow-append (imageQuestions s) (rowQuestions s) image-narrow rows-narrow) plan-narrow
 
 abbrev pub Small : Answer → Type 0
 Small a = (a .number < 2 ^ 16) × (a .table < 2 ^ 16)

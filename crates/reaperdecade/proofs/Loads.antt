@@ -17,9 +17,9 @@ use Rattle.writing.proofs.Bytes.{row-length}
 use Rattle.writing.proofs.Words.{Fit, words-row, words-drop}
 use Rattle.writing.proofs.Tables.{table-length}
 use Rattle.writing.proofs.Fitting.{table-fits}
-use Rattle.reaperdecade.specs.Loaded.{Loaded, rowBytes, givesBytes, afterBytes, BytesRun, Demand3ThroughC}
+use Rattle.reaperdecade.specs.Loaded.{Loaded, rowBytes, givesBytes, afterBytes, Demand3ThroughC}
 use Rattle.reaperdecade.proofs.States.{InWidth, AllInWidth, round-trip}
-use Rattle.reaperdecade.proofs.Runs.{Among, AllAmong, calls-of-bytes}
+use Rattle.reaperdecade.proofs.Runs.{AllAmong, calls-of-bytes}
 
 -- ---- words that bytes stand for
 

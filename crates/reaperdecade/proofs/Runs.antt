@@ -13,7 +13,7 @@ use lib.ListN.{length, getD, take, drop, set, List·getD-eq-default, length-map,
 use lib.Seq.{take-at, drop-at, drop-drop, drop-cons, drop-nil, take-nil, drop-append-add, take-append-add, set-split}
 use Rattle.plan.specs.Image.{wordAt}
 use Rattle.plan.specs.Dispatch.{tableTicks, tableEntries, entryWord, fits, lastTick, calendarEnds, nextEntry, moved, step, startState, refusal, stepAll}
-use Rattle.plan.specs.Boundary.{wordsOf, stateBytes, stepNumber, stepBytes, stepAllNumber, stepAllBytes}
+use Rattle.plan.specs.Boundary.{wordsOf, stateBytes, stepNumber}
 use Rattle.plan.specs.Runs.{Call, allLanes, oneLane, gives, leaves, after}
 use Rattle.plan.specs.declared.LaneState.{LaneState}
 use Rattle.plan.specs.declared.Stepped.{Stepped}

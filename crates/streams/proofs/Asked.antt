@@ -8,7 +8,8 @@ use Rattle.plan.specs.declared.Table.the-variants.{Streams}
 use Rattle.plan.specs.Image.{rows, shape}
 use Rattle.plan.specs.Questions.{eachJob, questionAt, each, streamQuestions}
 use Rattle.plan.proofs.Asking.{between}
-use Rattle.streams.specs.Framing.{Framed, Asking, jobAsked, tableAsked}
+use Rattle.frames.specs.Index.{Framed}
+use Rattle.streams.specs.Framing.{Asking, jobAsked, tableAsked}
 
 pub record Asked (s : List ℕ) (n : ℕ) : Type 0 where
   pub number : questionAt (streamQuestions s) (n - 14) .asked ≡ n
@@ -46,17 +47,14 @@ pub record OfJobs (s : List ℕ) (n : ℕ) : Type 0 where
   pub many : questionAt (streamQuestions s) (n - 14) .many ≡ rows s Streams
   pub ok : (m : ℕ) → eachJob s (jobAsked s n) m ≡ questionAt (streamQuestions s) (n - 14) .ok m
 
-pub of-jobs : (s : List ℕ) (n : ℕ) → 16 ≤ n → n ≤ 21 → n ≢ 18 → n ≢ 19 → OfJobs s n
+pub of-jobs : (s : List ℕ) (n : ℕ) → 17 ≤ n → n ≤ 21 → n ≢ 18 → n ≢ 19 → OfJobs s n
 unfolding questionAt each streamQuestions jobAsked eachJob
 of-jobs s n l m =
-    between (λ x. x ≢ 18 → x ≢ 19 → OfJobs s x) 16 6 (
+    between (λ x. x ≢ 18 → x ≢ 19 → OfJobs s x) 17 5 (
       λ _ _. record { many = refl; ok = λ r. refl },
       (
-        λ _ _. record { many = refl; ok = λ r. refl },
-        (
-          λ h _. absurd (h refl),
-          (λ _ h. absurd (h refl), (λ _ _. record { many = refl; ok = λ r. refl }, (λ _ _. record { many = refl; ok = λ r. refl }, tt))),
-        ),
+        λ h _. absurd (h refl),
+        (λ _ h. absurd (h refl), (λ _ _. record { many = refl; ok = λ r. refl }, (λ _ _. record { many = refl; ok = λ r. refl }, tt))),
       ),
     )
     n
@@ -64,8 +62,8 @@ of-jobs s n l m =
     (omega arith)
 
 -- from 17 on, 14 to 16 are passed
-pub framed-at : (s times : List ℕ) (n : ℕ) → Asking s times n → 17 ≤ n → Framed s
-framed-at s times n a l = record { sound = a .sound; passed = λ j k. a .passed j (omega arith) }
+pub framed-at : (s times index : List ℕ) (n : ℕ) → Asking s times index n → 17 ≤ n → Framed s
+framed-at s times index n a l = record { sound = a .sound; passed = λ j k. a .passed j (omega arith) }
 
 -- what is left of a number that is none of the lowest
 pub above : (n a : ℕ) → a ≤ n → n ≢ a → a < n

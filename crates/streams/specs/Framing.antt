@@ -1,36 +1,27 @@
 -- What this crate's own functions assume and give, in the words of the definitions.
-use Prim.Native.Nat.{ℕ, _-_, _≤_, _<_}
+use Prim.Native.Nat.{ℕ, _-_, _≤_}
 use mathlib.Core.Bool.{Bool, cond}
 use mathlib.Core.List.{List}
 use lib.Dec.{eqb}
 use Rattle.plan.specs.declared.Table.{Table}
 use Rattle.plan.specs.declared.Table.the-variants.{Streams, Frames}
-use Rattle.plan.specs.Image.{rows, stream}
-use Rattle.plan.specs.Questions.{jobs, oneFrame, joined, messageWaits, inTime, streamQuestions}
+use Rattle.plan.specs.Questions.{joined, messageWaits, inTime, streamQuestions}
 use Rattle.plan.specs.Held.{Sound, Passed}
 use Rattle.jobs.specs.Times.{Timed}
-
--- 1 to 6 and 14 to 16 are passed: each hop of each stream's job has its one frame
-pub record Framed (s : List ℕ) : Type 0 where
-  pub sound : Sound s
-  pub passed : Passed (streamQuestions s) 3
-
--- k is a job of stream m
-pub record JobOf (s : List ℕ) (m k : ℕ) : Type 0 where
-  pub row : m < rows s Streams
-  pub job : k < jobs s (stream s m .sender)
+use Rattle.frames.specs.Index.{Indexed}
 
 -- what is known where question n is asked
-pub record Asking (s times : List ℕ) (n : ℕ) : Type 0 where
+pub record Asking (s times index : List ℕ) (n : ℕ) : Type 0 where
   pub sound : Sound s
   pub timed : Timed s times
+  pub indexed : Indexed s index
   pub from : 14 ≤ n
   pub to : n ≤ 21
   pub passed : Passed (streamQuestions s) (n - 14)
 
--- what question 16, 17, 20 or 21 asks of job k of stream m
+-- what question 17, 20 or 21 asks of job k of stream m
 unfoldable pub jobAsked : List ℕ → ℕ → ℕ → ℕ → Bool
-jobAsked s n m k = cond (eqb n 16) (oneFrame s m k) (cond (eqb n 17) (joined s m k) (cond (eqb n 20) (messageWaits s m k) (inTime s m k)))
+jobAsked s n m k = cond (eqb n 17) (joined s m k) (cond (eqb n 20) (messageWaits s m k) (inTime s m k))
 
 -- the table that a question from 14 to 21 asks over
 unfoldable pub tableAsked : ℕ → Table

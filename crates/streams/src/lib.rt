@@ -1,16 +1,21 @@
 // Questions 14 to 21 (paper 01, "The questions"): streams and frames.
 ghost use mathlib.Core.Path.{_≡_};
+ghost use mathlib.Core.Logic.{_≢_};
 ghost use Prim.Native.Nat.{_-_, _<_, _≤_};
 ghost use Rattle.plan.specs.declared.Table.the-variants.{Streams, Frames};
 ghost use Rattle.plan.specs.Image.{rows};
-ghost use Rattle.plan.specs.Search.{count};
 ghost use Rattle.plan.specs.Held.{Sound, refusing};
-ghost use Rattle.plan.specs.Questions.{streamEnds, frameFits, ofHop, frameOf, oneFrame, joined, hopWaits, frameApart, frameClear};
+ghost use Rattle.plan.specs.Questions.{streamEnds, frameFits, joined, hopWaits};
 ghost use Rattle.plan.specs.Questions.{messageWaits, inTime, eachJob, questionAt, streamQuestions, answerTo};
 ghost use Rattle.jobs.specs.Times.{Timed};
-ghost use Rattle.streams.specs.Framing.{Framed, JobOf, jobAsked, tableAsked, Asking};
+ghost use Rattle.frames.specs.Index.{Framed, Indexed, JobOf};
+ghost use Rattle.streams.specs.Framing.{jobAsked, tableAsked, Asking};
+use clashes::first_clash;
+use frames::first_unframed;
+use frames::frame_of;
 use jobs::first_start;
 use jobs::last_end;
+use places::Occupant;
 use plan::Answer;
 use plan::Found;
 use plan::Table;
@@ -54,67 +59,9 @@ fn frame_fits(image: &[u8], frame: u32) -> bool
     exists & below & starts & ends
 }
 
-// Is the frame that of a stream's job at a hop?
-fn is_of_hop(image: &[u8], stream: u32, job: u32, hop: u32, frame: u32) -> bool
-    requires { ⌜ Sound (now image) × (frame < rows (now image) Frames) ⌝ }
-    ensures { λ r. ⌜ r ≡ ofHop (now (image .entry)) stream job hop frame ⌝ }
-{
-    let f = frame_at(image, frame);
-    (f.stream == stream) & (f.job == job) & (f.hop == hop)
-}
-
-// 16: how many frames a stream's job has at a hop.
-fn hop_count(image: &[u8], stream: u32, job: u32, hop: u32) -> u32
-    requires { ⌜ Sound (now image) ⌝ }
-    ensures { λ r. ⌜ r ≡ count (rows (now (image .entry)) Frames) (ofHop (now (image .entry)) stream job hop) ⌝ }
-{
-    let frames = rows_of(image, Table::Frames);
-    let mut found: u32 = 0;
-    let mut frame: u32 = 0;
-    while frame < frames {
-        if is_of_hop(image, stream, job, hop, frame) {
-            found += 1;
-        }
-        frame += 1;
-    }
-    found
-}
-
-// 16: has each hop of a stream's job exactly one?
-fn one_frame(image: &[u8], stream: u32, job: u32) -> bool
-    requires { ⌜ Sound (now image) × (stream < rows (now image) Streams) ⌝ }
-    ensures { λ r. ⌜ r ≡ oneFrame (now (image .entry)) stream job ⌝ }
-{
-    let hops = stream_at(image, stream).hops;
-    let mut hop: u32 = 0;
-    while hop < hops {
-        if hop_count(image, stream, job, hop) != 1 {
-            return false;
-        }
-        hop += 1;
-    }
-    true
-}
-
-// The row of that one frame: the lowest such row, 0 for none.
-fn frame_of(image: &[u8], stream: u32, job: u32, hop: u32) -> u32
-    requires { ⌜ Sound (now image) ⌝ }
-    ensures { λ r. ⌜ r ≡ frameOf (now (image .entry)) stream job hop ⌝ }
-{
-    let frames = rows_of(image, Table::Frames);
-    let mut frame: u32 = 0;
-    while frame < frames {
-        if is_of_hop(image, stream, job, hop, frame) {
-            return frame;
-        }
-        frame += 1;
-    }
-    0
-}
-
 // 17: does hop 0 leave the sender's node, each hop start where the one before ended, and the last reach the receiver's node?
-fn hops_joined(image: &[u8], stream: u32, job: u32) -> bool
-    requires { ⌜ Framed (now image) × JobOf (now image) stream job ⌝ }
+fn hops_joined(image: &[u8], index: &[u32], stream: u32, job: u32) -> bool
+    requires { ⌜ Framed (now image) × (Indexed (now image) (now index) × JobOf (now image) stream job) ⌝ }
     ensures { λ r. ⌜ r ≡ joined (now (image .entry)) stream job ⌝ }
 {
     let m = stream_at(image, stream);
@@ -122,7 +69,7 @@ fn hops_joined(image: &[u8], stream: u32, job: u32) -> bool
     let mut node = node_of(image, m.sender);
     let mut hop: u32 = 0;
     while hop < hops {
-        let frame = frame_of(image, stream, job, hop);
+        let frame = frame_of(image, index, stream, job, hop);
         let link = link_at(image, frame_at(image, frame).link);
         if link.from != node {
             return false;
@@ -134,54 +81,27 @@ fn hops_joined(image: &[u8], stream: u32, job: u32) -> bool
 }
 
 // 18: does the frame start no sooner than the previous hop's is across, by any node's clock?
-fn hop_waits(image: &[u8], frame: u32) -> bool
-    requires { ⌜ Framed (now image) × (frame < rows (now image) Frames) ⌝ }
+fn hop_waits(image: &[u8], index: &[u32], frame: u32) -> bool
+    requires { ⌜ Framed (now image) × (Indexed (now image) (now index) × (frame < rows (now image) Frames)) ⌝ }
     ensures { λ r. ⌜ r ≡ hopWaits (now (image .entry)) frame ⌝ }
 {
     let f = frame_at(image, frame);
     if f.hop == 0 {
         return true;
     }
-    let previous = frame_of(image, f.stream, f.job, f.hop - 1);
+    let previous = frame_of(image, index, f.stream, f.job, f.hop - 1);
     across_at(image, previous) <= f.start as u64
 }
 
-// 19: are two frames on different links, or without a tick in common?
-fn frames_apart(image: &[u8], lower: u32, frame: u32) -> bool
-    requires { ⌜ Sound (now image) × ((lower < frame) × (frame < rows (now image) Frames)) ⌝ }
-    ensures { λ r. ⌜ r ≡ frameApart (now (image .entry)) lower frame ⌝ }
-{
-    let a = frame_at(image, lower);
-    let b = frame_at(image, frame);
-    let same = a.link == b.link;
-    let early = (a.start as u64) < frame_end(image, frame);
-    let late = (b.start as u64) < frame_end(image, lower);
-    !same | !(early & late)
-}
-
-// 19: is a frame apart from every lower one?
-fn frame_clear(image: &[u8], frame: u32) -> bool
-    requires { ⌜ Sound (now image) × (frame < rows (now image) Frames) ⌝ }
-    ensures { λ r. ⌜ r ≡ frameClear (now (image .entry)) frame ⌝ }
-{
-    let mut lower: u32 = 0;
-    while lower < frame {
-        if !frames_apart(image, lower, frame) {
-            return false;
-        }
-        lower += 1;
-    }
-    true
-}
-
 // 20: does hop 0 start no sooner than the sender job's last end, and the receiver job no sooner than the last hop is across?
-fn message_waits(image: &[u8], times: &[u32], stream: u32, job: u32) -> bool
+fn message_waits(image: &[u8], times: &[u32], index: &[u32], stream: u32, job: u32) -> bool
     requires { ⌜ Timed (now image) (now times) × (Framed (now image) × JobOf (now image) stream job) ⌝ }
+    requires { ⌜ Indexed (now image) (now index) ⌝ }
     ensures { λ r. ⌜ r ≡ messageWaits (now (image .entry)) stream job ⌝ }
 {
     let m = stream_at(image, stream);
-    let first = frame_of(image, stream, job, 0);
-    let last = frame_of(image, stream, job, m.hops - 1);
+    let first = frame_of(image, index, stream, job, 0);
+    let last = frame_of(image, index, stream, job, m.hops - 1);
     let sent = last_end(image, times, m.sender, job) <= frame_at(image, first).start;
     let read = across_at(image, last) <= first_start(image, times, m.receiver, job) as u64;
     sent & read
@@ -198,28 +118,34 @@ fn in_time(image: &[u8], times: &[u32], stream: u32, job: u32) -> bool
     end <= limit_of(image, stream) as u64 + start
 }
 
-// Does a job of a stream pass question 16, 17, 20 or 21?
-fn job_passes(image: &[u8], times: &[u32], number: u32, stream: u32, job: u32) -> bool
-    requires { ⌜ Asking (now image) (now times) number × ((16 ≤ number) × JobOf (now image) stream job) ⌝ }
+// Does a job of a stream pass question 17, 20 or 21?
+fn job_passes(
+    image: &[u8],
+    times: &[u32],
+    index: &[u32],
+    number: u32,
+    stream: u32,
+    job: u32,
+) -> bool
+    requires { ⌜ Asking (now image) (now times) (now index) number × ((17 ≤ number) × JobOf (now image) stream job) ⌝ }
     ensures { λ r. ⌜ r ≡ jobAsked (now (image .entry)) number stream job ⌝ }
 {
     match number {
-        16 => one_frame(image, stream, job),
-        17 => hops_joined(image, stream, job),
-        20 => message_waits(image, times, stream, job),
+        17 => hops_joined(image, index, stream, job),
+        20 => message_waits(image, times, index, stream, job),
         _ => in_time(image, times, stream, job),
     }
 }
 
-// Does every job of a stream? Only as many jobs as there are frames can pass 16, so the search ends soon.
-fn each_job(image: &[u8], times: &[u32], number: u32, stream: u32) -> bool
-    requires { ⌜ Asking (now image) (now times) number × ((16 ≤ number) × (stream < rows (now image) Streams)) ⌝ }
+// Does every job of a stream? There are no more jobs than frames where 16 is passed.
+fn each_job(image: &[u8], times: &[u32], index: &[u32], number: u32, stream: u32) -> bool
+    requires { ⌜ Asking (now image) (now times) (now index) number × ((17 ≤ number) × (stream < rows (now image) Streams)) ⌝ }
     ensures { λ r. ⌜ r ≡ eachJob (now (image .entry)) (jobAsked (now (image .entry)) number) stream ⌝ }
 {
     let jobs = jobs_of(image, stream_at(image, stream).sender);
     let mut job: u32 = 0;
     while job < jobs {
-        if !job_passes(image, times, number, stream, job) {
+        if !job_passes(image, times, index, number, stream, job) {
             return false;
         }
         job += 1;
@@ -227,18 +153,17 @@ fn each_job(image: &[u8], times: &[u32], number: u32, stream: u32) -> bool
     true
 }
 
-// Does a row pass question 14 to 21?
-fn passes(image: &[u8], times: &[u32], number: u32, row: u32) -> bool
-    requires { ⌜ Asking (now image) (now times) number ⌝ }
+// Does a row pass question 14, 15, 17, 18, 20 or 21?
+fn passes(image: &[u8], times: &[u32], index: &[u32], number: u32, row: u32) -> bool
+    requires { ⌜ Asking (now image) (now times) (now index) number × ((number ≢ 16) × (number ≢ 19)) ⌝ }
     requires { ⌜ row < questionAt (streamQuestions (now image)) (number - 14) .many ⌝ }
     ensures { λ r. ⌜ r ≡ questionAt (streamQuestions (now (image .entry))) (number - 14) .ok row ⌝ }
 {
     match number {
         14 => stream_ends(image, row),
         15 => frame_fits(image, row),
-        18 => hop_waits(image, row),
-        19 => frame_clear(image, row),
-        _ => each_job(image, times, number, row),
+        18 => hop_waits(image, index, row),
+        _ => each_job(image, times, index, number, row),
     }
 }
 
@@ -254,15 +179,15 @@ fn table_of(number: u32) -> Table
     }
 }
 
-// The lowest row that says no.
-fn first_no(image: &[u8], times: &[u32], number: u32) -> Found
-    requires { ⌜ Asking (now image) (now times) number ⌝ }
+// The lowest row that says no to a question that is asked row by row.
+fn first_row(image: &[u8], times: &[u32], index: &[u32], number: u32) -> Found
+    requires { ⌜ Asking (now image) (now times) (now index) number × ((number ≢ 16) × (number ≢ 19)) ⌝ }
     ensures { λ r. ⌜ r ≡ refusing (questionAt (streamQuestions (now (image .entry))) (number - 14)) ⌝ }
 {
     let rows = rows_of(image, table_of(number));
     let mut row: u32 = 0;
     while row < rows {
-        if !passes(image, times, number, row) {
+        if !passes(image, times, index, number, row) {
             return Found::At(row);
         }
         row += 1;
@@ -270,14 +195,26 @@ fn first_no(image: &[u8], times: &[u32], number: u32) -> Found
     Found::Nothing
 }
 
-// Questions 14 to 21, in this order. The times are those of the plan's jobs.
-pub fn ask(image: &[u8], times: &[u32]) -> Answer
-    requires { ⌜ Sound (now image) × Timed (now image) (now times) ⌝ }
+// The lowest row that says no.
+fn first_no(image: &[u8], times: &[u32], index: &[u32], number: u32) -> Found
+    requires { ⌜ Asking (now image) (now times) (now index) number ⌝ }
+    ensures { λ r. ⌜ r ≡ refusing (questionAt (streamQuestions (now (image .entry))) (number - 14)) ⌝ }
+{
+    match number {
+        16 => first_unframed(image, index),
+        19 => first_clash(image, Occupant::Frame),
+        _ => first_row(image, times, index, number),
+    }
+}
+
+// Questions 14 to 21, in this order, with the frames found by place.
+fn ask_all(image: &[u8], times: &[u32], index: &[u32]) -> Answer
+    requires { ⌜ Sound (now image) × (Timed (now image) (now times) × Indexed (now image) (now index)) ⌝ }
     ensures { λ r. ⌜ r ≡ answerTo (streamQuestions (now (image .entry))) ⌝ }
 {
     let mut number: u32 = 14;
     while number <= 21 {
-        match first_no(image, times, number) {
+        match first_no(image, times, index, number) {
             Found::At(row) => {
                 return Answer {
                     number,
@@ -290,4 +227,14 @@ pub fn ask(image: &[u8], times: &[u32]) -> Answer
         number += 1;
     }
     plan::accepted()
+}
+
+// Questions 14 to 21. The times are those of the plan's jobs.
+pub fn ask(image: &[u8], times: &[u32]) -> Answer
+    requires { ⌜ Sound (now image) × Timed (now image) (now times) ⌝ }
+    ensures { λ r. ⌜ r ≡ answerTo (streamQuestions (now (image .entry))) ⌝ }
+{
+    let mut index = [0u32; 1088];
+    frames::gather(image, &mut index);
+    ask_all(image, times, &index)
 }

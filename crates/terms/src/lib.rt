@@ -1,5 +1,5 @@
 // The words of the plan paper: what its questions say of a task, a window, a piece, a stream and a frame, read off the image.
-// Each gives what the definition of that name gives (Questions.antt), for an image that has passed questions 1 to 6.
+// Each gives what the definition of that name gives (Questions.antt), for an image that has passed questions 1 to 6 and 32.
 ghost use mathlib.Core.Path.{_≡_};
 ghost use Prim.Native.Nat.{_<_, _≤_};
 ghost use Rattle.plan.specs.declared.Table.the-variants.{Tasks, Windows, Pieces, Streams, Frames};

@@ -1,3 +1,1 @@
-pub mod Loads
 pub mod Asked
-pub mod Charging

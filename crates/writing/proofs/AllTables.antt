@@ -17,7 +17,8 @@ use Rattle.plan.proofs.Asking.{then-asked, stopped-first}
 use Rattle.plan.proofs.Searching.{count-most}
 use Rattle.lanes.proofs.Accepted.{cycle-small}
 use Rattle.plan.proofs.Sounds.{accepted-sound}
-use Rattle.lanes.proofs.Building.{real, asked, whole-yes, whole-no}
+use Rattle.plan.proofs.Numbers.{real}
+use Rattle.lanes.proofs.Building.{asked, whole-yes, whole-no}
 use Rattle.writing.specs.Stored.{stored}
 use Rattle.writing.specs.AllTables.{tablesBelow, allTables, firstWord, allAnswer, allBytes, BuiltAll}
 use Rattle.writing.proofs.Storing.{stored-after, stored-front}

@@ -14,7 +14,8 @@ use Rattle.plan.specs.declared.LaneState.{LaneState}
 use Rattle.plan.specs.Questions.{answerOf, accepted}
 use Rattle.plan.specs.Dispatch.{lanes, tableOf, entryCount, buildAnswer, built, startState}
 use Rattle.plan.specs.Boundary.{wordsOf, buildBytes}
-use Rattle.lanes.proofs.Building.{accepted-of, built-accepted, build-no-lane, build-short}
+use Rattle.plan.proofs.Numbers.{accepted-of}
+use Rattle.lanes.proofs.Building.{built-accepted, build-no-lane, build-short}
 use Rattle.writing.specs.Stored.{BuiltBytes}
 use Rattle.writing.specs.AllTables.{tablesBelow, allTables, firstWord, allAnswer, allBytes, startRow, AllLie, AllReady}
 use Rattle.writing.proofs.Words.{words-length, words-row, words-drop}

@@ -26,7 +26,7 @@ module _ (image : List ℕ) where
   firstWord zero = 0
   firstWord (suc n) = firstWord n + length (tableOf image n)
 
-  -- building all of them: 1 to 24 and 29 to 31, then 26 of them together
+  -- building all of them: 1 to 24 and 29 to 32, then 26 of them together
   unfoldable pub allAnswer : List ℕ → Answer
   allAnswer b = answerTo (questions image ++ whole 26 (leb (length allTables) (length b / 4)) ∷ [])
 

@@ -6,9 +6,9 @@ ghost use Prim.Native.Nat.{_+_, _*_, _<_, _≤_};
 ghost use lib.ListN.{length};
 ghost use lib.Seq.{sets};
 ghost use Rattle.plan.specs.Image.{cycleTicks};
-ghost use Rattle.plan.specs.Questions.{answerOf, accepted};
 ghost use Rattle.plan.specs.Dispatch.{lanes, entryCount, entries, tableOf};
 ghost use Rattle.plan.specs.Boundary.{bytesOf};
+ghost use Rattle.lanes.specs.Walks.{Gathered};
 ghost use Rattle.writing.specs.Stored.{stored, Built};
 ghost use Rattle.writing.specs.AllTables.{allTables, BuiltAll};
 use building::lane_count;
@@ -40,15 +40,23 @@ fn put_entry(bytes: &mut [u8], at: usize, first: u32, kind: u32, row: u32)
 }
 
 // A lane's entries from byte `at` on. Gives n, how many they are.
-fn write_entries(image: &[u8], lane: u32, bytes: &mut [u8], at: usize) -> u32
-    requires { ⌜ (answerOf (now image) ≡ accepted) × (at + 12 * entryCount (now image) lane ≤ length (now bytes)) ⌝ }
+fn write_entries(
+    image: &[u8],
+    charges: &[u32],
+    index: &[u32],
+    lane: u32,
+    bytes: &mut [u8],
+    at: usize,
+) -> u32
+    requires { ⌜ Gathered (now image) (now charges) (now index) × (lane < lanes (now image)) ⌝ }
+    requires { ⌜ at + 12 * entryCount (now image) lane ≤ length (now bytes) ⌝ }
     ensures { λ r. ⌜ (r ≡ entryCount (now (image .entry)) lane) × (now (bytes .exit) ≡ stored (now (bytes .entry)) at (entries (now (image .entry)) lane (cycleTicks (now (image .entry))))) ⌝ }
 {
     let end = cycle_ticks(image);
-    let mut walk = start();
+    let mut walk = start(image, index, lane);
     let mut count: u32 = 0;
     while walk.until < end {
-        walk = step(image, lane, walk);
+        walk = step(image, charges, index, lane, walk);
         if walk.begins {
             put_entry(
                 bytes,
@@ -64,22 +72,30 @@ fn write_entries(image: &[u8], lane: u32, bytes: &mut [u8], at: usize) -> u32
 }
 
 // A lane's table from byte `at` on: H, n and the entries. Gives n.
-fn write_table(image: &[u8], lane: u32, bytes: &mut [u8], at: usize) -> u32
-    requires { ⌜ (answerOf (now image) ≡ accepted) × (at + 4 * (2 + 3 * entryCount (now image) lane) ≤ length (now bytes)) ⌝ }
+fn write_table(
+    image: &[u8],
+    charges: &[u32],
+    index: &[u32],
+    lane: u32,
+    bytes: &mut [u8],
+    at: usize,
+) -> u32
+    requires { ⌜ Gathered (now image) (now charges) (now index) × (lane < lanes (now image)) ⌝ }
+    requires { ⌜ at + 4 * (2 + 3 * entryCount (now image) lane) ≤ length (now bytes) ⌝ }
     ensures { λ r. ⌜ (r ≡ entryCount (now (image .entry)) lane) × (now (bytes .exit) ≡ stored (now (bytes .entry)) at (tableOf (now (image .entry)) lane)) ⌝ }
 {
-    let count = write_entries(image, lane, bytes, at + 8);
+    let count = write_entries(image, charges, index, lane, bytes, at + 8);
     put_word(bytes, at, cycle_ticks(image));
     put_word(bytes, at + 4, count);
     count
 }
 
 // 26, and the table of a lane of an accepted plan where the words suffice. A part of a word at the end does not count.
-fn fill(image: &[u8], lane: u32, bytes: &mut [u8]) -> Answer
-    requires { ⌜ (answerOf (now image) ≡ accepted) × (lane < lanes (now image)) ⌝ }
+fn fill(image: &[u8], charges: &[u32], index: &[u32], lane: u32, bytes: &mut [u8]) -> Answer
+    requires { ⌜ Gathered (now image) (now charges) (now index) × (lane < lanes (now image)) ⌝ }
     ensures { λ r. ⌜ Built (now (image .entry)) lane (now (bytes .entry)) r (now (bytes .exit)) ⌝ }
 {
-    let count = count_entries(image, lane);
+    let count = count_entries(image, charges, index, lane);
     if bytes.len() / 4 < 2 + 3 * count as usize {
         return Answer {
             number: 26,
@@ -87,11 +103,11 @@ fn fill(image: &[u8], lane: u32, bytes: &mut [u8]) -> Answer
             row: 0,
         };
     }
-    write_table(image, lane, bytes, 0);
+    write_table(image, charges, index, lane, bytes, 0);
     plan::accepted()
 }
 
-// Builds a lane's table: asks 1 to 24 and 29 to 31, then 25 and 26, and writes H, n and the entries from byte 0 on. Later bytes, and all bytes
+// Builds a lane's table: asks 1 to 24 and 29 to 32, then 25 and 26, and writes H, n and the entries from byte 0 on. Later bytes, and all bytes
 // after a refusal, stay as they are.
 pub fn build(image: &[u8], lane: u32, bytes: &mut [u8]) -> Answer
     ensures { λ r. ⌜ Built (now (image .entry)) lane (now (bytes .entry)) r (now (bytes .exit)) ⌝ }
@@ -107,40 +123,59 @@ pub fn build(image: &[u8], lane: u32, bytes: &mut [u8]) -> Answer
             row: 0,
         };
     }
-    fill(image, lane, bytes)
+    let mut charges = [0u32; 1024];
+    let mut index = [0u32; 3776];
+    lanes::gather(image, &mut charges, &mut index);
+    fill(image, &charges, &index, lane, bytes)
 }
 
 // How many words the tables of all lanes take.
-fn words_of_all(image: &[u8]) -> usize
-    requires { ⌜ answerOf (now image) ≡ accepted ⌝ }
+fn words_of_all(image: &[u8], charges: &[u32], index: &[u32]) -> usize
+    requires { ⌜ Gathered (now image) (now charges) (now index) ⌝ }
     ensures { λ r. ⌜ r ≡ length (allTables (now (image .entry))) ⌝ }
 {
     let lanes = lane_count(image);
     let mut words: usize = 0;
     let mut lane: u32 = 0;
     while lane < lanes {
-        words += 2 + 3 * count_entries(image, lane) as usize;
+        words += 2 + 3 * count_entries(image, charges, index, lane) as usize;
         lane += 1;
     }
     words
 }
 
 // The tables of all lanes, one after another from byte 0 on.
-fn write_all(image: &[u8], bytes: &mut [u8])
-    requires { ⌜ (answerOf (now image) ≡ accepted) × (4 * length (allTables (now image)) ≤ length (now bytes)) ⌝ }
+fn write_all(image: &[u8], charges: &[u32], index: &[u32], bytes: &mut [u8])
+    requires { ⌜ Gathered (now image) (now charges) (now index) × (4 * length (allTables (now image)) ≤ length (now bytes)) ⌝ }
     ensures { λ _. ⌜ now (bytes .exit) ≡ stored (now (bytes .entry)) 0 (allTables (now (image .entry))) ⌝ }
 {
     let lanes = lane_count(image);
     let mut at: usize = 0;
     let mut lane: u32 = 0;
     while lane < lanes {
-        let count = write_table(image, lane, bytes, at);
+        let count = write_table(image, charges, index, lane, bytes, at);
         at += 8 + 12 * count as usize;
         lane += 1;
     }
 }
 
-// Builds the tables of all lanes, lanes rising: asks 1 to 24 and 29 to 31 once, then 26 of all words together. Later bytes, and all bytes
+// 26 of all words together, and the tables of all lanes of an accepted plan where the words suffice.
+fn fill_all(image: &[u8], charges: &[u32], index: &[u32], bytes: &mut [u8]) -> Answer
+    requires { ⌜ Gathered (now image) (now charges) (now index) ⌝ }
+    ensures { λ r. ⌜ BuiltAll (now (image .entry)) (now (bytes .entry)) r (now (bytes .exit)) ⌝ }
+{
+    if bytes.len() / 4 < words_of_all(image, charges, index) {
+        return Answer {
+            number: 26,
+            table: 0,
+            row: 0,
+        };
+    }
+    write_all(image, charges, index, bytes);
+    plan::accepted()
+}
+
+// Builds the tables of all lanes, lanes rising: asks 1 to 24 and 29 to 32 once, then 26 of all words together. Later bytes, and all bytes
 // after a refusal, stay as they are.
 pub fn build_all(image: &[u8], bytes: &mut [u8]) -> Answer
     ensures { λ r. ⌜ BuiltAll (now (image .entry)) (now (bytes .entry)) r (now (bytes .exit)) ⌝ }
@@ -149,13 +184,8 @@ pub fn build_all(image: &[u8], bytes: &mut [u8]) -> Answer
     if checked.number != 0 {
         return checked;
     }
-    if bytes.len() / 4 < words_of_all(image) {
-        return Answer {
-            number: 26,
-            table: 0,
-            row: 0,
-        };
-    }
-    write_all(image, bytes);
-    plan::accepted()
+    let mut charges = [0u32; 1024];
+    let mut index = [0u32; 3776];
+    lanes::gather(image, &mut charges, &mut index);
+    fill_all(image, &charges, &index, bytes)
 }

@@ -402,8 +402,8 @@ impl Draft {
         })
     }
 
-    /// The plan with windows and chains, masks and its rows shuffled; none
-    /// where the windows do not come out.
+    /// The plan with windows and chains, masks and its rows shuffled or in
+    /// order; none where the windows do not come out.
     pub fn finish(self, rng: &mut Rng) -> Option<Plan> {
         self.finish_with(None, None, rng)
     }
@@ -444,7 +444,8 @@ fn split(sum: u32, count: u32, rng: &mut Rng) -> Vec<u32> {
     parts
 }
 
-/// Gives masks to the tasks and shuffles the rows of most plans.
+/// Gives masks to the tasks, shuffles the rows of most plans and puts in order
+/// those that have a start.
 pub fn shuffled(mut plan: Plan, rng: &mut Rng) -> Plan {
     if rng.chance(90) {
         shuffle_rows(&mut plan, rng);
@@ -455,7 +456,7 @@ pub fn shuffled(mut plan: Plan, rng: &mut Rng) -> Plan {
         let others = rng.pick(&[0, 0, u32::MAX, any]);
         plan.tasks[task][1] = others | 1 << core;
     }
-    plan
+    plan.in_order()
 }
 
 fn shuffle_rows(plan: &mut Plan, rng: &mut Rng) {
@@ -476,9 +477,6 @@ fn shuffle_rows(plan: &mut Plan, rng: &mut Rng) {
     rename(&mut plan.buffers, 2, &tasks);
     rename(&mut plan.chains, 0, &tasks);
     rename(&mut plan.chains, 1, &tasks);
-    rng.shuffle(&mut plan.windows);
-    rng.shuffle(&mut plan.pieces);
-    rng.shuffle(&mut plan.frames);
     rng.shuffle(&mut plan.buffers);
     rng.shuffle(&mut plan.chains);
 }

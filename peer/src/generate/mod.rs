@@ -4,7 +4,7 @@
 //! their nodes differ and by buffers where they do not. Each job is placed
 //! where its core is free once what it waits for has arrived; windows are
 //! laid around the pieces afterwards, chains along the messages, and rows are
-//! shuffled last.
+//! shuffled last, those with a start apart, which are put in order.
 
 mod chains;
 mod draft;

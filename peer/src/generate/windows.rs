@@ -204,7 +204,7 @@ fn window_in(gap: Gap, v: u32, vcpu: u32, rng: &mut Rng) -> Option<Stretch> {
 
 /// Cuts a window in two at a tick at which no piece runs on, where there is
 /// one. The later one adjoins the other and pays no switch, so that an
-/// accepted plan stays one.
+/// accepted plan stays one, its rows in order again.
 pub fn cut_window(plan: &mut Plan, rng: &mut Rng) -> Option<()> {
     let window = rng.below(plan.windows.len().max(1));
     let [vcpu, start, length] = *plan.windows.get(window)?;
@@ -220,5 +220,6 @@ pub fn cut_window(plan: &mut Plan, rng: &mut Rng) -> Option<()> {
     let cut = rng.pick_any(&ticks)?;
     plan.windows[window][2] = cut - start;
     plan.windows.push([vcpu, cut, start + length - cut]);
+    plan.put_in_order();
     Some(())
 }

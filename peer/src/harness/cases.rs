@@ -10,6 +10,9 @@ use crate::mutate::{aim, mutant, mutate};
 use crate::rng::Rng;
 use crate::table::tables;
 
+/// What calls came to: all went alike, or not.
+type Called = Result<(), Difference>;
+
 /// What a case came to.
 pub struct Outcome {
     /// The number of the question that refused its image first, or 0.
@@ -119,12 +122,7 @@ fn around(words: usize, rng: &mut Rng) -> [usize; 3] {
 
 /// Builds every lane, and all of them, with too few words, just enough and too
 /// many, and some lanes that are none.
-fn build_all(
-    pair: &mut Pair,
-    image: &[u8],
-    tables: &[Vec<u32>],
-    rng: &mut Rng,
-) -> Result<(), Difference> {
+fn build_all(pair: &mut Pair, image: &[u8], tables: &[Vec<u32>], rng: &mut Rng) -> Called {
     for (lane, table) in (0..).zip(tables) {
         for length in around(table.len(), rng) {
             pair.build(image, lane, &mut Lent::noise(length, rng))?;
@@ -142,7 +140,7 @@ fn build_all(
     Ok(())
 }
 
-fn build_refused(pair: &mut Pair, image: &[u8], rng: &mut Rng) -> Result<(), Difference> {
+fn build_refused(pair: &mut Pair, image: &[u8], rng: &mut Rng) -> Called {
     for lane in [0, rng.within(0..=40), rng.word()] {
         let length = rng.below(800);
         pair.build(image, lane, &mut Lent::noise(length, rng))?;
@@ -181,13 +179,13 @@ impl Run {
         })
     }
 
-    fn run(&self, pair: &mut Pair, rng: &mut Rng) -> Result<(), Difference> {
+    fn run(&self, pair: &mut Pair, rng: &mut Rng) -> Called {
         let words = self.lent_words(rng);
         self.walk_from_start(pair, &words, rng)?;
         for _ in 0..4 {
             let states = self.states_at_any_tick(rng);
-            self.walk_on(pair, &words, &states, rng)?;
-            self.step_broken(pair, &words, &states, rng)?;
+            walk_on(pair, &words, &states, rng)?;
+            step_broken(pair, &words, &states, rng)?;
         }
         Ok(())
     }
@@ -202,12 +200,7 @@ impl Run {
 
     /// Starts every lane and steps all of them, over the end of the cycle
     /// where it is short.
-    fn walk_from_start(
-        &self,
-        pair: &mut Pair,
-        words: &Lent,
-        rng: &mut Rng,
-    ) -> Result<(), Difference> {
+    fn walk_from_start(&self, pair: &mut Pair, words: &Lent, rng: &mut Rng) -> Called {
         let cycle = any_cycle(rng);
         let mut row = Vec::new();
         for &first in &self.firsts {
@@ -270,55 +263,43 @@ impl Run {
         let entries = self.words[first + 2..][..3 * count].as_chunks::<3>().0;
         entries.partition_point(|entry| entry[0] <= tick) as u32 - 1
     }
+}
 
-    /// Steps all lanes and single ones, in turn.
-    fn walk_on(
-        &self,
-        pair: &mut Pair,
-        words: &Lent,
-        states: &[State],
-        rng: &mut Rng,
-    ) -> Result<(), Difference> {
-        let mut row = Lent::of(&records(states), rng);
-        for _ in 0..4 {
-            pair.step_all(words, &mut row)?;
-            let lane = rng.below(states.len());
-            let part = lane * STATE..(lane + 1) * STATE;
-            let mut record = Lent::of(&row.part()[part.clone()], rng);
-            pair.step(words, &mut record)?;
-            row.part_mut()[part].copy_from_slice(record.part());
-        }
-        Ok(())
-    }
-
-    /// Steps with a record, a length or a row of words that does not fit.
-    fn step_broken(
-        &self,
-        pair: &mut Pair,
-        words: &Lent,
-        states: &[State],
-        rng: &mut Rng,
-    ) -> Result<(), Difference> {
-        let mut broken = states.to_vec();
-        let lane = rng.below(broken.len());
-        stale(&mut broken[lane], rng);
-        let mut row = Lent::of(&records(&broken), rng);
+/// Steps all lanes and single ones, in turn.
+fn walk_on(pair: &mut Pair, words: &Lent, states: &[State], rng: &mut Rng) -> Called {
+    let mut row = Lent::of(&records(states), rng);
+    for _ in 0..4 {
         pair.step_all(words, &mut row)?;
-        pair.step(words, &mut Lent::of(&records(&broken[lane..=lane]), rng))?;
-        let mut bytes = records(states);
-        bytes.truncate(bytes.len() - 1 - rng.below(STATE - 1));
-        pair.step_all(words, &mut Lent::of(&bytes, rng))?;
-        for length in [0, rng.below(STATE), STATE + 1 + rng.below(STATE)] {
-            let mut record = records(&states[lane..=lane]);
-            record.resize(length, 0);
-            pair.step(words, &mut Lent::of(&record, rng))?;
-        }
-        let fewer = &words.part()[..rng.below(words.part().len() + 1)];
-        let fewer = Lent::of(fewer, rng);
-        pair.step_all(&fewer, &mut Lent::of(&records(states), rng))?;
-        pair.step_all(words, &mut Lent::noise(0, rng))?;
-        Ok(())
+        let lane = rng.below(states.len());
+        let part = lane * STATE..(lane + 1) * STATE;
+        let mut record = Lent::of(&row.part()[part.clone()], rng);
+        pair.step(words, &mut record)?;
+        row.part_mut()[part].copy_from_slice(record.part());
     }
+    Ok(())
+}
+
+/// Steps with a record, a length or a row of words that does not fit.
+fn step_broken(pair: &mut Pair, words: &Lent, states: &[State], rng: &mut Rng) -> Called {
+    let mut broken = states.to_vec();
+    let lane = rng.below(broken.len());
+    stale(&mut broken[lane], rng);
+    let mut row = Lent::of(&records(&broken), rng);
+    pair.step_all(words, &mut row)?;
+    pair.step(words, &mut Lent::of(&records(&broken[lane..=lane]), rng))?;
+    let mut bytes = records(states);
+    bytes.truncate(bytes.len() - 1 - rng.below(STATE - 1));
+    pair.step_all(words, &mut Lent::of(&bytes, rng))?;
+    for length in [0, rng.below(STATE), STATE + 1 + rng.below(STATE)] {
+        let mut record = records(&states[lane..=lane]);
+        record.resize(length, 0);
+        pair.step(words, &mut Lent::of(&record, rng))?;
+    }
+    let fewer = &words.part()[..rng.below(words.part().len() + 1)];
+    let fewer = Lent::of(fewer, rng);
+    pair.step_all(&fewer, &mut Lent::of(&records(states), rng))?;
+    pair.step_all(words, &mut Lent::noise(0, rng))?;
+    Ok(())
 }
 
 fn any_cycle(rng: &mut Rng) -> u64 {
@@ -344,7 +325,7 @@ fn stale(state: &mut State, rng: &mut Rng) {
 }
 
 /// Steps over small tables of rough words, with states as rough.
-fn rough_steps(pair: &mut Pair, rng: &mut Rng) -> Result<(), Difference> {
+fn rough_steps(pair: &mut Pair, rng: &mut Rng) -> Called {
     let mut words: Vec<u32> = (0..rng.below(16)).map(|_| rng.within(0..=3)).collect();
     let huge = [u32::MAX, u32::MAX - 1, 1 << 31, (1 << 30) + 1];
     if rng.chance(15) && !words.is_empty() {
@@ -370,7 +351,7 @@ fn rough_steps(pair: &mut Pair, rng: &mut Rng) -> Result<(), Difference> {
 }
 
 /// Starts and steps over bytes that are nothing at all, of any lengths.
-fn noise_steps(pair: &mut Pair, rng: &mut Rng) -> Result<(), Difference> {
+fn noise_steps(pair: &mut Pair, rng: &mut Rng) -> Called {
     let length = rng.below(200);
     let words = Lent::noise(length, rng);
     let lengths = [STATE, rng.below(2 * STATE)];

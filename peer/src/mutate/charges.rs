@@ -161,31 +161,20 @@ fn empty_before(plan: &mut Plan, rng: &mut Rng) -> Option<()> {
     let least = u32::from(rng.chance(80));
     plan.windows[row][2] = rng.within(least..=plan.vcpu_switch(vcpu));
     for _ in 0..rng.within(1..=2) {
-        add_behind(plan, [vcpu, start, 0], rng)?;
+        insert(&mut plan.windows, WINDOW, [vcpu, start, 0], rng)?;
     }
     Some(())
 }
 
-/// A window of at most v ticks, and one that ends at its start modulo 2^32.
+/// A window of at most v ticks, and a later one that ends at its start modulo
+/// 2^32.
 fn wrapped_before(plan: &mut Plan, rng: &mut Rng) -> Option<()> {
     let row = any_where(plan.windows.len(), |row| switch(plan, row) > 0, rng)?;
     let [vcpu, start, _] = plan.windows[row];
     plan.windows[row][2] = rng.within(1..=plan.vcpu_switch(vcpu));
     let later = start + rng.within(1..=9);
     let length = start.wrapping_sub(later);
-    add_behind(plan, [vcpu, later, length], rng)
-}
-
-/// Puts one more row into the windows, mostly as the last: a row that is
-/// refused itself then lets the rows before it show what they pay.
-fn add_behind(plan: &mut Plan, window: [u32; 3], rng: &mut Rng) -> Option<()> {
-    insert(&mut plan.windows, WINDOW, window, rng)?;
-    if rng.chance(80) {
-        let added = plan.windows.iter().position(|other| *other == window)?;
-        plan.windows.remove(added);
-        plan.windows.push(window);
-    }
-    Some(())
+    insert(&mut plan.windows, WINDOW, [vcpu, later, length], rng)
 }
 
 /// A window that continues and could not pay, where there is one, and its

@@ -270,6 +270,9 @@ pub fn piece_clash(plan: &mut Plan, rng: &mut Rng) -> Option<()> {
         plan.pieces[row][3] = length.wrapping_add(rng.within(1..=3));
         return Some(());
     }
+    if rng.chance(30) && reach_over(plan, rng).is_some() {
+        return Some(());
+    }
     let [task, k, _, length] = plan.pieces[row].map(wide);
     let [vcpu, _, period, _, deadline] = plan.tasks[task as usize];
     let release = k * wide(period);
@@ -285,6 +288,29 @@ pub fn piece_clash(plan: &mut Plan, rng: &mut Rng) -> Option<()> {
     let (first, last) = clash_starts(plan, other, length, room)?;
     let any = first + rng.below((last - first) as usize + 1) as i64;
     plan.pieces[row][2] = word(rng.pick(&[first, first - 1, last, last + 1, any]));
+    Some(())
+}
+
+/// Makes a piece reach into the next one in its window, or just up to it, over
+/// rows of other cores between the two.
+fn reach_over(plan: &mut Plan, rng: &mut Rng) -> Option<()> {
+    let next = |row: usize| {
+        let window = window_of(plan, row)?;
+        (row + 1..plan.pieces.len()).find(|other| window_of(plan, *other) == Some(window))
+    };
+    let due = |row: usize| {
+        let [task, k, ..] = plan.pieces[row].map(wide);
+        let [_, _, period, _, deadline] = plan.tasks[task as usize].map(wide);
+        k * period + deadline
+    };
+    let serves = |row: usize| {
+        let start = |other: usize| wide(plan.pieces[other][2]);
+        next(row).is_some_and(|other| other > row + 1 && start(other) < due(row))
+    };
+    let row = any_where(plan.pieces.len().min(300), serves, rng)?;
+    let [_, _, start, _] = plan.pieces[row];
+    let reached = plan.pieces[next(row)?][2] + rng.pick(&[0, 1, 1, 1]);
+    plan.pieces[row][3] = reached.wrapping_sub(start);
     Some(())
 }
 

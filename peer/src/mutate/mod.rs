@@ -8,6 +8,7 @@ mod bytes;
 mod chains;
 mod charges;
 mod cores;
+mod order;
 mod streams;
 
 use crate::generate;
@@ -18,10 +19,10 @@ use crate::rng::Rng;
 /// An image made of an accepted plan by one change, sometimes by two.
 pub fn mutate(plan: &Plan, rng: &mut Rng) -> Vec<u8> {
     let mut plan = plan.clone();
-    let first = match rng.below(30) as u32 {
+    let first = match rng.below(31) as u32 {
         0 => Change::Harmless,
         chosen @ 1..=3 => Change::Bytes(chosen),
-        4..=27 => Change::Rows(any_of_rows(rng)),
+        4..=28 => Change::Rows(any_of_rows(rng)),
         _ => Change::Scattered,
     };
     if let Change::Rows(question) = first {
@@ -83,7 +84,19 @@ fn aim_or_near(question: u32, plan: &mut Plan, rng: &mut Rng) {
 
 /// Changes a sound plan with a question in mind; none where it has no rows
 /// that would serve. The plan may be changed in part then.
+///
+/// A plan in order is put in order again, but for a few and where that is what
+/// is to be broken.
 pub fn aim(question: u32, plan: &mut Plan, rng: &mut Rng) -> Option<()> {
+    let was_in_order = plan.out_of_order().is_none();
+    change(question, plan, rng)?;
+    if was_in_order && question != 32 && rng.chance(96) {
+        plan.put_in_order();
+    }
+    Some(())
+}
+
+fn change(question: u32, plan: &mut Plan, rng: &mut Rng) -> Option<()> {
     match question {
         4 => cores::limits(plan, rng),
         5 => cores::row_number(plan, rng),
@@ -109,6 +122,7 @@ pub fn aim(question: u32, plan: &mut Plan, rng: &mut Rng) -> Option<()> {
         29 => chains::tasks(plan, rng),
         30 => chains::path(plan, rng),
         31 => chains::limit(plan, rng),
+        32 => order::order(plan, rng),
         _ => None,
     }
 }
@@ -120,8 +134,11 @@ fn harmless(plan: &mut Plan, rng: &mut Rng) {
         1 => plan.tasks.iter_mut().for_each(|task| task[4] = task[2]),
         2 => plan.tasks.iter_mut().for_each(|task| task[1] = u32::MAX),
         3 => plan.streams.iter_mut().for_each(|row| row[2] = 1_000_000),
-        4 => rng.shuffle(&mut plan.pieces),
-        5 => rng.shuffle(&mut plan.windows),
+        4 => rng.shuffle(&mut plan.buffers),
+        5 => {
+            let links = plan.links.iter_mut();
+            links.for_each(|row| row[2] = row[2].saturating_sub(1));
+        }
         6 => rng.shuffle(&mut plan.chains),
         7 => plan.chains.iter_mut().for_each(|row| row[2] = u32::MAX),
         _ if plan.windows.len() < ROW_BOUNDS[WINDOW as usize - 1].1 as usize => {

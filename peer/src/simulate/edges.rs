@@ -22,7 +22,8 @@ pub enum Dial {
     Limit(usize),
 }
 
-/// An accepted plan, and the same one tick further.
+/// An accepted plan, and the same one tick further. The rows of both are in
+/// order, so that a piece or frame that is turned may have another row in each.
 #[derive(Clone, Debug)]
 pub struct Edge {
     /// The first question that is answered no there.
@@ -59,12 +60,14 @@ fn dials(plan: &Plan) -> Vec<Dial> {
     dials
 }
 
-/// Turns one dial until a question refuses; none where it never does.
+/// Turns one dial until a question refuses; none where it never does. The dial
+/// keeps its row, whichever row that is once they are in order.
 fn edge(plan: &Plan, dial: Dial, by: i64) -> Option<Edge> {
+    let mut turned = plan.clone();
     let mut kept = plan.clone();
     for _ in 0..=2 * plan.cycle {
-        let mut broken = kept.clone();
-        dial.turn(&mut broken, by)?;
+        dial.turn(&mut turned, by)?;
+        let broken = turned.clone().in_order();
         match check(&broken.encode()).number {
             0 => kept = broken,
             question => {

@@ -61,3 +61,17 @@ pub fn two_rows() -> Plan {
         ..Plan::default()
     }
 }
+
+/// Case B over two links of different rates, with a cycle of 60 ticks: frames
+/// take 1 and 8 ticks, or the other way round.
+pub fn two_hops(rates: [u32; 2], second_start: u32) -> Plan {
+    let mut plan = case_b();
+    plan.cycle = 60;
+    plan.tasks = vec![[0, 3, 60, 3, 60], [1, 3, 60, 3, 60]];
+    plan.windows = vec![[0, 0, 60], [1, 0, 60]];
+    plan.links = vec![[0, 2, 3, rates[0]], [2, 1, 5, rates[1]]];
+    plan.streams = vec![[0, 1, 0, 2, 46]];
+    plan.frames = vec![[0, 0, 0, 0, 6], [0, 0, 1, 1, second_start]];
+    plan.pieces[1][2] = 40;
+    plan
+}

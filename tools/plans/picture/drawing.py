@@ -1,5 +1,5 @@
 """A plan's picture, put together."""
-from ..answers import explained
+from ..answers import explained, reason
 from ..meaning import Meaning
 from .arrows import draw_arrows, draw_marked_jobs, draw_travels
 from .blocks import draw_blocks
@@ -36,7 +36,8 @@ class View:
 
 def picture(plan, name, answer=None, view=None):
     """SVG text; an answer colours the row it names and stands in the title."""
-    verdict = wrapped(explained(plan, answer), TITLE_WIDTH, 13) if answer else []
+    words = [explained(plan, answer), reason(plan, answer)] if answer else []
+    verdict = [line for text in words if text for line in wrapped(text, TITLE_WIDTH, 13)]
     scene = Scene(plan, answer, view or View(), top=62 + TITLE_LINE * len(verdict))
     scene.svg.rect("page", 0, 0, 0, 0)
     draw_axis(scene)

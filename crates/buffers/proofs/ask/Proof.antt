@@ -1,8 +1,7 @@
-use Prim.Native.Nat.{ℕ, suc, _+_, _-_, _≤_}
-use mathlib.Core.Path.{_≡_, refl, sym, ap, subst, _∙_}
+use Prim.Native.Nat.{suc, _+_, _-_, _≤_}
+use mathlib.Core.Path.{_≡_, sym, ap, subst, _∙_}
 use borrow.Author.Needs.{needs}
 use native.Mathlib.Omega.{arith}
-use lib.ListN.{length}
 use Rattle.plan.specs.declared.Shape.{Shape}
 use Rattle.plan.specs.Questions.{bufferQuestions}
 use Rattle.plan.specs.Held.{Passed}

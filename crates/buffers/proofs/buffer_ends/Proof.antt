@@ -1,4 +1,4 @@
-use mathlib.Core.Path.{_≡_, refl, sym, ap, subst, _∙_}
+use mathlib.Core.Path.{refl}
 use Rattle.plan.specs.declared.Table.the-variants.{Buffers}
 use Rattle.plan.specs.Questions.{bufferEnds}
 use borrow.Author.Needs.{needs}

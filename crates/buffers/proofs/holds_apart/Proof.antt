@@ -2,8 +2,8 @@ use mathlib.Core.Bool.{true, false}
 use Rattle.buffers.specs.Holds.{holdOf, sideOf}
 use Rattle.buffers.proofs.Sides.{both-left, none-left}
 use Rattle.buffers.proofs.Rising.{holds-rise}
-use Prim.Native.Nat.{ℕ, _+_, _≤_, _-_}
-use mathlib.Core.Path.{_≡_, refl, sym, ap, subst, _∙_}
+use Prim.Native.Nat.{_+_, _≤_, _-_}
+use mathlib.Core.Path.{_≡_, refl, sym, _∙_}
 use native.Mathlib.Omega.{arith}
 use Rattle.plan.specs.Questions.{hold}
 use Rattle.buffers.proofs.Merging.{ApartTo, apart-none, apart-all, not-apart, pass-left, pass-right}

@@ -1,4 +1,4 @@
-use mathlib.Core.Path.{_≡_, refl, sym, ap, subst, _∙_}
+use mathlib.Core.Path.{refl, sym, _∙_}
 use Rattle.plan.specs.Questions.{holdApart}
 use Rattle.buffers.specs.Holds.{holdsApart}
 use Rattle.plan.specs.Search.{apart}

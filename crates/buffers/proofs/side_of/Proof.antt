@@ -1,5 +1,7 @@
 use borrow.Author.Tests.{le-leb, lt-leb}
-use mathlib.Core.Path.{_≡_, refl, sym, ap, subst, _∙_}
+use mathlib.Core.Bool.{true, _&&_}
+use mathlib.Core.Path.{_≡_, refl}
+use lib.Dec.{ltb}
 use Rattle.buffers.specs.Holds.{sideOf}
 use Rattle.buffers.proofs.side_of.Statement.{statement}
 use Rattle.buffers.proofs.side_of.Tie as tie
@@ -9,7 +11,7 @@ use Rattle.buffers.proofs.side_of.Lts as lts
 -- src/lib.rt:101:1
 returns : tie.Need-returns
 unfolding sideOf
-returns c = rw (c .if1 .taken) refl
+returns c = let x = c .before .before .before .before .before .args in let e : ltb (x .a .from) (x .b .to) && ltb (x .b .from) (x .a .to) ≡ true = c .if1 .taken in rw e refl
 
 -- src/lib.rt:101:1
 returns-2 : tie.Need-returns-2

@@ -1,8 +1,9 @@
-use mathlib.Core.Path.{sym, ap, subst, _∙_}
-use native.Mathlib.Omega.{arith}
-use Rattle.plan.specs.declared.Answer.{Answer}
+use Rattle.lanes.proofs.Building.{build-refused, build-no-lane}
+use Rattle.plan.proofs.Numbers.{accepted-of}
 use Rattle.lanes.specs.Words.{Filled}
-use Rattle.lanes.proofs.Building.{accepted-of, build-refused, build-no-lane}
+use Rattle.plan.specs.declared.Answer.{Answer}
+use native.Mathlib.Omega.{arith}
+use mathlib.Core.Path.{refl, sym, ap, subst, _∙_}
 use borrow.Author.Needs.{needs}
 use Rattle.building.proofs.build.Statement.{statement}
 use Rattle.building.proofs.build.Tie as tie
@@ -10,6 +11,7 @@ use Rattle.building.proofs.build.Reads as reads
 use Rattle.building.proofs.build.Lts as lts
 use Rattle.building.proofs.lane_count.Reads as lane-count-reads
 use Rattle.lanes.proofs.fill.Reads as fill-reads
+use Rattle.lanes.proofs.gather.Reads as gather-reads
 use Rattle.questions.proofs.check.Reads as check-reads
 
 -- src/lib.rt:23:9
@@ -28,9 +30,29 @@ lane-count-requires c κs = let s = c .before .before .before .before .before .a
 returns-2 : tie.Need-returns-2
 returns-2 c = let a = c .before .before .before .before .before .before .before .args in let s = a .image .now in let g = c .before .lane-count .ensures in build-no-lane s (a .lane) (a .words .now) (accepted-of s (sym (ap (λ (x : Answer). x .number) (c .before .before .before .before .check .ensures)) ∙ c .before .before .if1 .left)) (let t = c .if2 .taken in omega arith)
 
--- src/lib.rt:34:5
+-- src/lib.rt:36:26
+slice-aggregate-gather : tie.Need-slice-aggregate-gather
+slice-aggregate-gather c = search needs
+
+-- src/lib.rt:36:40
+slice-aggregate-gather-2 : tie.Need-slice-aggregate-gather-2
+slice-aggregate-gather-2 c = search needs
+
+-- src/lib.rt:36:5
+gather-requires : tie.Need-gather-requires
+gather-requires c κs = let s = c .before .before .before .before .before .before .before .before .before .args .image .now in (accepted-of s (sym (ap (λ (x : Answer). x .number) (c .before .before .before .before .before .before .check .ensures)) ∙ c .before .before .before .before .if1 .left), (refl, refl))
+
+-- src/lib.rt:37:24
+slice-aggregate-fill : tie.Need-slice-aggregate-fill
+slice-aggregate-fill c = search needs
+
+-- src/lib.rt:37:34
+slice-aggregate-fill-2 : tie.Need-slice-aggregate-fill-2
+slice-aggregate-fill-2 c = search needs
+
+-- src/lib.rt:37:5
 fill-requires : tie.Need-fill-requires
-fill-requires c κs = let s = c .before .before .before .before .before .before .before .before .args .image .now in let g = c .before .before .lane-count .ensures in (accepted-of s (sym (ap (λ (x : Answer). x .number) (c .before .before .before .before .before .check .ensures)) ∙ c .before .before .before .if1 .left), let t = c .before .if2 .left in omega arith)
+fill-requires c κs = search needs
 
 -- src/lib.rt:20:1
 same-length : tie.Need-same-length
@@ -48,6 +70,11 @@ build-spec =
     returns
     lane-count-requires
     returns-2
+    slice-aggregate-gather
+    slice-aggregate-gather-2
+    gather-requires
+    slice-aggregate-fill
+    slice-aggregate-fill-2
     fill-requires
     same-length
     returns-3)

@@ -1,16 +1,16 @@
 use Prim.Native.Nat.{ℕ, _+_, _-_, _*_, _≤_, _<_}
 use mathlib.Core.Path.{_≡_, refl, sym, ap, subst, _∙_}
-use mathlib.Core.Bool.{true, false}
+use mathlib.Core.Bool.{false}
 use native.Mathlib.Omega.{arith}
 use native.Mathlib.Numerals.{add-one}
 use lib.ListN.{length, length-set}
 use borrow.Author.Needs.{needs}
-use Rattle.plan.specs.Image.{rows, cycleTicks, shape}
+use Rattle.plan.specs.Image.{cycleTicks, shape}
 use Rattle.plan.specs.declared.Table.the-variants.{Tasks}
 use Rattle.plan.specs.Search.{any}
 use Rattle.plan.specs.Questions.{firstStart}
 use Rattle.plan.proofs.Searching.{any-turn}
-use Rattle.chains.specs.Walks.{messages, senderOf, readerOf, leadsTo, sentOn, Marked}
+use Rattle.chains.specs.Walks.{messages, senderOf, readerOf, sentOn, Marked}
 use Rattle.chains.proofs.Leading.{asked-facts, sent-some, not-sent, sent, leads-none, leads-there, one-marked, later-reader, reader-below}
 use borrow.Fn.Kinds.{In}
 use borrow.Fn.PlainCycle.{Measures, is, falls, and}

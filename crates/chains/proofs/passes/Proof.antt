@@ -2,7 +2,6 @@ use Prim.Native.Nat.{ℕ, _-_, _≤_}
 use mathlib.Core.Path.{_≡_, sym, ap, _∙_}
 use native.Mathlib.Omega.{arith}
 use Rattle.plan.specs.Questions.{questionAt, each, chainQuestions}
-use borrow.Author.Needs.{needs}
 use Rattle.chains.proofs.passes.Statement.{statement}
 use Rattle.chains.proofs.passes.Tie as tie
 use Rattle.chains.proofs.passes.Reads as reads

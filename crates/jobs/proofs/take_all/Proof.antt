@@ -1,12 +1,10 @@
-use Prim.Native.Nat.{ℕ, _+_, _-_, _≤_}
-use mathlib.Core.Path.{_≡_, refl, sym, ap, subst, _∙_}
+use Prim.Native.Nat.{_-_, _≤_}
+use mathlib.Core.Path.{_≡_, refl, subst, _∙_}
 use native.Mathlib.Omega.{arith}
 use lib.ListN.{length}
 use Rattle.plan.specs.declared.Table.the-variants.{Pieces}
 use Rattle.plan.specs.Image.{rows}
 use Rattle.jobs.specs.Times.{Gathered}
-use Rattle.jobs.proofs.Held.{all-placed}
-use Rattle.jobs.proofs.Gathering.{timed}
 use Rattle.jobs.proofs.take_all.Statement.{statement}
 use Rattle.jobs.proofs.take_all.Tie as tie
 use Rattle.jobs.proofs.take_all.Reads as reads
@@ -20,37 +18,37 @@ Inv-loop image times₀ pieces piece₀ times piece = (piece ≤ pieces) × (len
 abbrev μ-loop : tie.MeasureT-loop
 μ-loop image times₀ pieces piece₀ times piece = pieces - piece
 
--- src/lib.rt:96:9
+-- src/lib.rt:109:9
 rows-of-requires : tie.Need-rows-of-requires Inv-loop μ-loop
 rows-of-requires c κs = c .before .before .pre .0 .0 .inside .trailer
 
--- src/lib.rt:98:5
+-- src/lib.rt:111:5
 loop-holds : tie.Need-loop-holds Inv-loop μ-loop
 loop-holds c = (omega arith, refl, c .before .before .before .pre .1)
 
--- src/lib.rt:99:9
+-- src/lib.rt:112:9
 take-in-requires : tie.Need-take-in-requires Inv-loop μ-loop
 take-in-requires c κs = let p = c .before .before .before .before .before .before .pre in let g = c .before .before .before .rows-of .ensures in ((p .0 .0, (p .0 .1, omega arith)), c .before .before .loop .inv .2)
 
--- src/lib.rt:100:9
+-- src/lib.rt:113:9
 add-piece : tie.Need-add-piece Inv-loop μ-loop
 add-piece c = omega arith
 
--- src/lib.rt:98:5
+-- src/lib.rt:111:5
 loop-less : tie.Need-loop-less Inv-loop μ-loop
 loop-less c = omega arith
 
--- src/lib.rt:98:5
+-- src/lib.rt:111:5
 loop-again : tie.Need-loop-again Inv-loop μ-loop
 loop-again c = let l = c .before .before .before .before .before .loop in let t = c .before .before .take-in in (omega arith, t .kept .1 .0 ∙ l .inv .1, t .ensures)
 
--- src/lib.rt:91:1
+-- src/lib.rt:104:1
 same-length : tie.Need-same-length Inv-loop μ-loop
 same-length c = c .before .loop .inv .1
 
--- src/lib.rt:91:1
+-- src/lib.rt:104:1
 returns : tie.Need-returns Inv-loop μ-loop
-returns c = let l = c .before .loop in let p = c .before .before .before .before .before .pre in let s = c .before .before .before .before .before .args .image .now in let g = c .before .before .rows-of .ensures in let e : l .piece ≡ rows s Pieces = omega arith in timed s (l .times) (all-placed s (p .0 .0) (p .0 .1)) (subst (Gathered s (l .times)) e (l .inv .2))
+returns c = let l = c .before .loop in let s = c .before .before .before .before .before .args .image .now in let g = c .before .before .rows-of .ensures in let e : l .piece ≡ rows s Pieces = omega arith in subst (Gathered s (l .times)) e (l .inv .2)
 
 pub take-all-spec : {M : Type 1} → statement M
 take-all-spec =

@@ -26,10 +26,10 @@ add-if1 : tie.Need-add-if1
 add-if1 c = search needs
 
 returns : tie.Need-returns
-returns c = let a = c .before .before .before .before .args in let p = c .before .before .before .before .pre in build-short (a .image .now) (a .lane) (a .words .now) (p .0) (p .1) (omega (arith, c .before .count-entries .ensures, c .if1 .taken))
+returns c = let a = c .before .before .before .before .before .before .args in let p = c .before .before .before .before .before .before .pre in build-short (a .image .now) (a .lane) (a .words .now) (p .0 .passed) (p .1) (omega (arith, c .before .count-entries .ensures, c .if1 .taken))
 
 cycle-ticks-requires : tie.Need-cycle-ticks-requires
-cycle-ticks-requires c κs = accepted-sound _ (c .before .before .before .before .pre .0) .inside .trailer
+cycle-ticks-requires c κs = accepted-sound _ (c .before .before .before .before .before .before .pre .0 .passed) .inside .trailer
 
 slice-write-words : tie.Need-slice-write-words
 slice-write-words c = search needs
@@ -38,16 +38,16 @@ slice-write-words-2 : tie.Need-slice-write-words-2
 slice-write-words-2 c = simp length-set (omega (arith, c .before .if1 .left))
 
 write-entries-requires : tie.Need-write-entries-requires
-write-entries-requires c κs = (c .before .before .before .before .before .before .pre .0, simp length-set (omega (arith, c .before .before .before .count-entries .ensures, c .before .before .if1 .left)))
+write-entries-requires c κs = (c .before .before .before .before .before .before .before .before .pre, simp length-set (omega (arith, c .before .before .before .count-entries .ensures, c .before .before .if1 .left)))
 
 accepted-requires : tie.Need-accepted-requires
 accepted-requires c κs = search needs
 
 same-length : tie.Need-same-length
-same-length c = c .before .before .before .write-entries .kept .1 .1 .0 ∙ simp length-set
+same-length c = c .before .before .before .write-entries .kept .1 .1 .1 .1 .0 ∙ simp length-set
 
 returns-2 : tie.Need-returns-2
-returns-2 c = let a = c .before .before .before .before .before .before .before .before .before .before .args in let p = c .before .before .before .before .before .before .before .before .before .before .pre in filled (a .image .now) (a .lane) (a .words .now) (p .0) (p .1) _ _ _ _ (c .before .before .before .before .before .cycle-ticks .ensures) (c .before .before .before .before .before .before .before .count-entries .ensures) (c .before .before .before .before .before .before .if1 .left) (c .before .before .before .write-entries .ensures) (c .accepted .ensures)
+returns-2 c = let a = c .before .before .before .before .before .before .before .before .before .before .before .before .args in let p = c .before .before .before .before .before .before .before .before .before .before .before .before .pre in filled (a .image .now) (a .lane) (a .words .now) (p .0 .passed) (p .1) _ _ _ _ (c .before .before .before .before .before .cycle-ticks .ensures) (c .before .before .before .before .before .before .before .count-entries .ensures) (c .before .before .before .before .before .before .if1 .left) (c .before .before .before .write-entries .ensures) (c .accepted .ensures)
 
 pub fill-spec : {M : Type 1} → statement M
 fill-spec =

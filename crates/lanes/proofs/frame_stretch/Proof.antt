@@ -1,6 +1,5 @@
 use mathlib.Core.Path.{refl}
 use native.Mathlib.Omega.{arith}
-use Rattle.lanes.specs.Taken.{tableFor}
 use Rattle.lanes.specs.Walks.{frameStretch}
 use Rattle.lanes.proofs.Accepted.{frame-small}
 use Rattle.plan.proofs.Sounds.{accepted-sound}
@@ -11,11 +10,9 @@ use Rattle.lanes.proofs.frame_stretch.Lts as lts
 use Rattle.terms.proofs.frame_end.Reads as frame-end-reads
 
 frame-end-requires : tie.Need-frame-end-requires
-unfolding tableFor
 frame-end-requires c κs = let p = c .before .pre in (accepted-sound _ (p .0), p .1)
 
 cast-t4 : tie.Need-cast-t4
-unfolding tableFor
 cast-t4 c = let p = c .before .before .pre in let a = c .before .before .args in omega (arith, c .frame-end .ensures, frame-small (a .image .now) (p .0) (a .frame) (p .1))
 
 returns : tie.Need-returns

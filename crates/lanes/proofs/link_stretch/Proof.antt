@@ -1,7 +1,8 @@
-use mathlib.Core.Path.{subst}
-use Rattle.lanes.specs.declared.Occupant.the-variants.{Frame}
-use Rattle.lanes.specs.Taken.{Nearest}
 use Rattle.lanes.proofs.Stretches.{frame-sends, link-idles}
+use Rattle.lanes.specs.Taken.{Nearest}
+use Rattle.places.specs.Places.{tableFor}
+use Rattle.places.specs.declared.Occupant.the-variants.{Frame}
+use mathlib.Core.Path.{subst}
 use borrow.Author.Needs.{needs}
 use Rattle.lanes.proofs.link_stretch.Statement.{statement}
 use Rattle.lanes.proofs.link_stretch.Tie as tie
@@ -11,24 +12,32 @@ use Rattle.lanes.proofs.frame_stretch.Reads as frame-stretch-reads
 use Rattle.lanes.proofs.idle_stretch.Reads as idle-stretch-reads
 use Rattle.lanes.proofs.nearest.Reads as nearest-reads
 
+-- src/lib.rt:195:11
 nearest-requires : tie.Need-nearest-requires
 nearest-requires c κs = search needs
 
-enum-known-frame : tie.Need-enum-known-frame
-enum-known-frame c = search needs
+-- src/lib.rt:196:21
+enum-known-taken : tie.Need-enum-known-taken
+enum-known-taken c = search needs
 
+-- src/lib.rt:196:31
 frame-stretch-requires : tie.Need-frame-stretch-requires
-frame-stretch-requires c κs = let a = c .before .before .before .before .before .args in let s = a .image .now in let h = subst (Nearest s Frame (a .link) (a .tick)) (c .before .frame .given .1) (c .before .before .before .nearest .ensures) in (c .before .before .before .before .before .pre .0, h .row)
+unfolding tableFor
+frame-stretch-requires c κs = let a = c .before .before .before .before .before .args in let s = a .image .now in let h = subst (Nearest s Frame (a .link) (a .tick)) (c .before .taken .given .1) (c .before .before .before .nearest .ensures) in (c .before .before .before .before .before .pre .0, h .row)
 
+-- src/lib.rt:197:20
 enum-known-free : tie.Need-enum-known-free
 enum-known-free c = search needs
 
+-- src/lib.rt:197:29
 idle-stretch-requires : tie.Need-idle-stretch-requires
 idle-stretch-requires c κs = search needs
 
+-- src/lib.rt:191:1
 returns : tie.Need-returns
-returns c = let a = c .before .before .before .before .before .before .args in let s = a .image .now in let h = subst (Nearest s Frame (a .link) (a .tick)) (c .before .before .frame .given .1) (c .before .before .before .before .nearest .ensures) in rw (c .frame-stretch .ensures) (frame-sends s (a .link) (a .tick) _ h)
+returns c = let a = c .before .before .before .before .before .before .args in let s = a .image .now in let h = subst (Nearest s Frame (a .link) (a .tick)) (c .before .before .taken .given .1) (c .before .before .before .before .nearest .ensures) in rw (c .frame-stretch .ensures) (frame-sends s (a .link) (a .tick) _ h)
 
+-- src/lib.rt:191:1
 returns-2 : tie.Need-returns-2
 returns-2 c = let a = c .before .before .before .before .before .before .args in let s = a .image .now in let h = subst (Nearest s Frame (a .link) (a .tick)) (c .before .before .free .given .1) (c .before .before .before .before .nearest .ensures) in rw (c .idle-stretch .ensures) (link-idles s (a .link) (a .tick) _ h)
 
@@ -37,7 +46,7 @@ link-stretch-spec =
     tie.close
     (tie.spec
     nearest-requires
-    enum-known-frame
+    enum-known-taken
     frame-stretch-requires
     enum-known-free
     idle-stretch-requires

@@ -1,4 +1,4 @@
-use mathlib.Core.Path.{_≡_, refl, sym, ap, subst, _∙_}
+use mathlib.Core.Path.{sym, _∙_}
 use borrow.Author.Tests.{not-true, not-false}
 use Rattle.layout.proofs.Wholes.{long-enough, no-1, no-2, no-3, no-4, yes-4}
 use borrow.Author.Needs.{needs}

@@ -1,4 +1,4 @@
-use mathlib.Core.Path.{_≡_, refl, sym, ap, subst, _∙_}
+use mathlib.Core.Path.{refl}
 use Rattle.layout.specs.Tests.{lengthFits}
 use Rattle.plan.specs.Image.{image}
 use Rattle.layout.proofs.length_fits.Statement.{statement}

@@ -1,5 +1,5 @@
 use Prim.Native.Nat.{_<_}
-use mathlib.Core.Path.{_≡_, refl, sym, ap, subst, _∙_}
+use mathlib.Core.Path.{sym, ap, subst, _∙_}
 use Rattle.plan.specs.declared.Table.{Table}
 use Rattle.plan.specs.Image.{rows}
 use Rattle.plan.specs.Questions.{inRange}

@@ -1,5 +1,5 @@
 use Rattle.plan.specs.declared.Task.{Task}
-use mathlib.Core.Path.{_≡_, refl, sym, ap, subst, _∙_}
+use mathlib.Core.Path.{refl, sym, ap, _∙_}
 use Rattle.plan.specs.Questions.{inRange}
 use borrow.Author.Needs.{needs}
 use Rattle.layout.proofs.task_range.Statement.{statement}

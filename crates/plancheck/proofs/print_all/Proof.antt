@@ -1,12 +1,12 @@
 use mathlib.Core.Path.{sym, ap, _∙_}
 use Rattle.plan.specs.declared.Answer.{Answer}
-use Rattle.lanes.proofs.Building.{accepted-of}
+use Rattle.plan.proofs.Numbers.{accepted-of}
 use borrow.Author.Needs.{needs}
 use Rattle.plancheck.proofs.print_all.Statement.{statement}
 use Rattle.plancheck.proofs.print_all.Tie as tie
 use Rattle.plancheck.proofs.print_all.Reads as reads
 use Rattle.plancheck.proofs.print_all.Lts as lts
-use Rattle.plancheck.proofs.print_lanes.Reads as print-lanes-reads
+use Rattle.plancheck.proofs.print_tables.Reads as print-tables-reads
 use Rattle.plancheck.proofs.print_number.Reads as print-number-reads
 use Rattle.questions.proofs.check.Reads as check-reads
 
@@ -27,8 +27,8 @@ print-number-requires-3 : tie.Need-print-number-requires-3
 print-number-requires-3 c κs = search needs
 
 -- src/main.rt:73:9
-print-lanes-requires : tie.Need-print-lanes-requires
-print-lanes-requires c κs = let s = c .before .before .before .before .before .before .before .args .image .now in accepted-of s (sym (ap (λ (x : Answer). x .number) (c .before .before .before .before .before .check .ensures)) ∙ c .if1 .taken)
+print-tables-requires : tie.Need-print-tables-requires
+print-tables-requires c κs = let s = c .before .before .before .before .before .before .before .args .image .now in accepted-of s (sym (ap (λ (x : Answer). x .number) (c .before .before .before .before .before .check .ensures)) ∙ c .if1 .taken)
 
 -- src/main.rt:67:1
 returns : tie.Need-returns
@@ -46,6 +46,6 @@ print-all-spec =
     print-number-requires
     print-number-requires-2
     print-number-requires-3
-    print-lanes-requires
+    print-tables-requires
     returns
     returns-2)

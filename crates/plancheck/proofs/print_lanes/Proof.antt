@@ -8,14 +8,14 @@ use Rattle.building.proofs.lane_count.Reads as lane-count-reads
 use Rattle.plancheck.proofs.print_lane.Reads as print-lane-reads
 
 abbrev Inv-loop : tie.InvT-loop
-Inv-loop image count lane₀ lane = lane ≤ count
+Inv-loop image charges index count lane₀ lane = lane ≤ count
 
 abbrev μ-loop : tie.MeasureT-loop
-μ-loop image count lane₀ lane = count - lane
+μ-loop image charges index count lane₀ lane = count - lane
 
 -- src/main.rt:59:9
 lane-count-requires : tie.Need-lane-count-requires Inv-loop μ-loop
-lane-count-requires c κs = c .before .pre
+lane-count-requires c κs = c .before .before .before .pre .passed
 
 -- src/main.rt:61:5
 loop-holds : tie.Need-loop-holds Inv-loop μ-loop
@@ -23,7 +23,7 @@ loop-holds c = omega arith
 
 -- src/main.rt:62:9
 print-lane-requires : tie.Need-print-lane-requires Inv-loop μ-loop
-print-lane-requires c κs = let g = c .before .before .lane-count .ensures in (c .before .before .before .before .pre, omega arith)
+print-lane-requires c κs = let g = c .before .before .lane-count .ensures in (c .before .before .before .before .before .before .pre, omega arith)
 
 -- src/main.rt:63:9
 add-lane : tie.Need-add-lane Inv-loop μ-loop

@@ -27,7 +27,7 @@ use prog.Wp.{Heap, Calls, Loops, Env, Wp, WpFn, Tables, afterSeq, afterBlock, af
 use ghost.Atoms.{Atoms, sem}
 use contract.Monad.{Fun, fact}
 use contract.Running.{givenOf, tables, tablesOf}
-use types.Kit.{Given, Item, ‵, raw, _⊛_, ⋆, some, later, prop, runs, frees, anyQ, atRet, Sq, _$_, _∵_, !, qed, by, move, keep, drop as drops, use1, use2, split, join, pick, rewrite, fsplit, fjoin, suffices, frame, await, done}
+use types.Kit.{Given, Item, ‵, raw, _⊛_, ⋆, some, later, prop, runs, frees, anyQ, atRet, Sq, _$_, _∵_, !, qed, by, move, drop as drops, use1, use2, split, join, pick, rewrite, fsplit, fjoin, suffices, frame, await, done}
 use types.Run.{look, look-raw, store, store-raw, init, forget, stop, hop, fld, from, load, lit, of-opd, bin, and-then, no-more, assigns, assigns-last, land, first, blocks, loops, again, Below, returns, returns-within, exec, enter, alloc1, alloc0, params1, pass1, pass0, free1, free0}
 use types.Part.{whole, sub, look-in}
 use sound.WpLaws.{FmC, fmOf, WpFn-mono}

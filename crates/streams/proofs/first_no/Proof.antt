@@ -1,63 +1,40 @@
-use Prim.Native.Nat.{ℕ, _-_, _≤_}
-use mathlib.Core.Path.{_≡_, refl, sym, ap, subst, _∙_}
+use Prim.Native.Nat.{ℕ, _-_}
+use mathlib.Core.Path.{sym, ap, _∙_}
 use native.Mathlib.Omega.{arith}
-use native.Mathlib.Numerals.{add-one}
-use borrow.Author.Tests.{not-true, not-false}
-use Rattle.plan.specs.declared.Found.the-variants.{Nothing}
-use Rattle.plan.specs.Image.{rows}
-use Rattle.plan.specs.Search.{firstNo}
-use Rattle.plan.specs.Questions.{questionAt, streamQuestions}
-use Rattle.plan.proofs.Searching.{turn-yes, stops}
-use Rattle.streams.proofs.Asked.{asked}
+use Rattle.plan.specs.Questions.{questionAt, each, streamQuestions}
+use Rattle.plan.specs.Held.{refusing}
 use Rattle.streams.proofs.first_no.Statement.{statement}
 use Rattle.streams.proofs.first_no.Tie as tie
+use Rattle.streams.proofs.first_no.Reads as reads
+use Rattle.streams.proofs.first_no.Lts as lts
+use Rattle.places.specs.Places.{tableFor}
+use Rattle.clashes.specs.Clashes.{clearOf}
+use Rattle.clashes.proofs.Clashing.{frames-last}
+use Rattle.clashes.proofs.first_clash.Reads as first-clash-reads
+use Rattle.frames.proofs.first_unframed.Reads as first-unframed-reads
+use Rattle.streams.proofs.first_row.Reads as first-row-reads
 
-abbrev Inv-loop : tie.InvT-loop
-Inv-loop image times number n row₀ row = (row ≤ n) × (firstNo row (questionAt (streamQuestions image) (number - 14) .ok) ≡ Nothing)
+-- src/lib.rt:231:15
+first-unframed-requires : tie.Need-first-unframed-requires
+first-unframed-requires c κs = let a = c .before .before .before .before .args in let p = c .before .before .before .before .pre in let e = c .match .keys1 in (p .sound, ((λ j l. p .passed j (omega arith)), p .indexed))
 
-abbrev μ-loop : tie.MeasureT-loop
-μ-loop image times number n row₀ row = n - row
+first-clash-requires : tie.Need-first-clash-requires
+first-clash-requires c κs = let p = c .before .before .before .before .pre in (p .sound, frames-last _ (p .sound))
 
-table-of-requires : tie.Need-table-of-requires Inv-loop μ-loop
-table-of-requires c κs = tt
+-- src/lib.rt:232:14
+first-row-requires : tie.Need-first-row-requires
+first-row-requires c κs = (c .before .before .before .before .pre, (c .match .rest .0 .1, c .match .rest .1))
 
-rows-of-requires : tie.Need-rows-of-requires Inv-loop μ-loop
-rows-of-requires c κs = c .before .before .before .pre .sound .inside .trailer
+-- src/lib.rt:226:1
+returns : tie.Need-returns
+returns c = let a = c .before .before .before .before .before .args in let s = a .image .now in c .first-unframed .ensures ∙ sym (ap (λ (n : ℕ). refusing (questionAt (streamQuestions s) (n - 14))) (c .before .match .keys1))
 
-loop-holds : tie.Need-loop-holds Inv-loop μ-loop
-unfolding firstNo
-loop-holds c = (omega arith, refl)
+returns-2 : tie.Need-returns-2
+unfolding questionAt each streamQuestions tableFor clearOf
+returns-2 c = let a = c .before .before .before .before .before .args in let s = a .image .now in c .first-clash .ensures ∙ sym (ap (λ (n : ℕ). refusing (questionAt (streamQuestions s) (n - 14))) (c .before .match .keys2))
 
-passes-requires : tie.Need-passes-requires Inv-loop μ-loop
-passes-requires c κs = let l = c .before .loop in let a = c .before .before .before .before .before .before .args in let p = c .before .before .before .before .before .before .pre in let s = a .image .now in let q = questionAt (streamQuestions s) (a .number - 14) in let g : c .before .before .rows-of .result ≡ q .many = c .before .before .rows-of .ensures ∙ ap (rows s) (c .before .before .before .table-of .ensures) ∙ sym (asked s (a .number) (p .from) (p .to) .many) in (p, rw (← g) (c .loop-test .taken))
-
-returns : tie.Need-returns Inv-loop μ-loop
-returns c = let l = c .before .before .before .loop in let a = c .before .before .before .before .before .before .before .before .args in let p = c .before .before .before .before .before .before .before .before .pre in let s = a .image .now in let q = questionAt (streamQuestions s) (a .number - 14) in let g : c .before .before .before .before .rows-of .result ≡ q .many = c .before .before .before .before .rows-of .ensures ∙ ap (rows s) (c .before .before .before .before .before .table-of .ensures) ∙ sym (asked s (a .number) (p .from) (p .to) .many) in sym (stops (q .ok) (q .many) (l .row) (l .inv .1) (rw (← g) (c .before .before .loop-test .taken)) (sym (c .before .passes .ensures) ∙ not-true _ (c .if1 .taken)))
-
-add-row : tie.Need-add-row Inv-loop μ-loop
-add-row c = omega arith
-
-loop-less : tie.Need-loop-less Inv-loop μ-loop
-loop-less c = omega arith
-
-loop-again : tie.Need-loop-again Inv-loop μ-loop
-loop-again c = let l = c .before .before .before .loop in let a = c .before .before .before .before .before .before .before .before .args in let p = c .before .before .before .before .before .before .before .before .pre in let s = a .image .now in let q = questionAt (streamQuestions s) (a .number - 14) in let g : c .before .before .before .before .rows-of .result ≡ q .many = c .before .before .before .before .rows-of .ensures ∙ ap (rows s) (c .before .before .before .before .before .table-of .ensures) ∙ sym (asked s (a .number) (p .from) (p .to) .many) in (omega arith, rw (add-one (l .row)) (turn-yes (q .ok) (l .row) (l .inv .1) (sym (c .before .passes .ensures) ∙ not-false _ (c .if1 .left))))
-
-returns-2 : tie.Need-returns-2 Inv-loop μ-loop
-returns-2 c = let l = c .before .loop in let a = c .before .before .before .before .before .before .args in let p = c .before .before .before .before .before .before .pre in let s = a .image .now in let q = questionAt (streamQuestions s) (a .number - 14) in let g : c .before .before .rows-of .result ≡ q .many = c .before .before .rows-of .ensures ∙ ap (rows s) (c .before .before .before .table-of .ensures) ∙ sym (asked s (a .number) (p .from) (p .to) .many) in let e : l .row ≡ q .many = omega arith in sym (subst (λ (n : ℕ). firstNo n (q .ok) ≡ Nothing) e (l .inv .1))
+returns-3 : tie.Need-returns-3
+returns-3 c = c .first-row .ensures
 
 pub first-no-spec : {M : Type 1} → statement M
-first-no-spec =
-    tie.close
-    (tie.spec
-    Inv-loop
-    μ-loop
-    table-of-requires
-    rows-of-requires
-    loop-holds
-    passes-requires
-    returns
-    add-row
-    loop-less
-    loop-again
-    returns-2)
+first-no-spec = tie.close (tie.spec first-unframed-requires first-clash-requires first-row-requires returns returns-2 returns-3)

@@ -3,7 +3,8 @@ use native.Mathlib.Omega.{arith}
 use borrow.Author.Tests.{eq-eqb, ne-eqb}
 use Rattle.plan.specs.declared.Frame.{Frame}
 use Rattle.plan.specs.Questions.{hopWaits}
-use Rattle.streams.proofs.Framing.{frame-exists, job-of, hop-of}
+use Rattle.streams.proofs.Framing.{job-of, hop-of}
+use Rattle.frames.proofs.Reading.{frame-exists}
 use borrow.Author.Needs.{needs}
 use Rattle.streams.proofs.hop_waits.Statement.{statement}
 use Rattle.streams.proofs.hop_waits.Tie as tie
@@ -19,10 +20,10 @@ sub-frame-of : tie.Need-sub-frame-of
 sub-frame-of c = search needs
 
 frame-of-requires : tie.Need-frame-of-requires
-frame-of-requires c κs = search needs
+frame-of-requires c κs = let a = c .before .before .before .before .before .before .args in let p = c .before .before .before .before .before .before .pre in let f = c .before .before .before .frame-at .ensures in let s = a .image .now in ((p .0, p .1 .0), rw f (job-of s (p .0) (a .frame) (p .1 .1), omega (arith, hop-of s (p .0) (a .frame) (p .1 .1))))
 
 across-at-requires : tie.Need-across-at-requires
-across-at-requires c κs = let a = c .before .before .before .before .before .before .args in let p = c .before .before .before .before .before .before .pre in let f = c .before .before .before .before .frame-at .ensures in let s = a .image .now in (p .0 .sound, rw (c .frame-of .ensures, f) (frame-exists s (p .0) _ _ _ (job-of s (p .0) (a .frame) (p .1)) (omega (arith, hop-of s (p .0) (a .frame) (p .1)))))
+across-at-requires c κs = let a = c .before .before .before .before .before .before .before .args in let p = c .before .before .before .before .before .before .before .pre in let f = c .before .before .before .before .frame-at .ensures in let s = a .image .now in (p .0 .sound, rw (c .frame-of .ensures, f) (frame-exists s (p .0) _ _ _ (job-of s (p .0) (a .frame) (p .1 .1)) (omega (arith, hop-of s (p .0) (a .frame) (p .1 .1)))))
 
 cast-result : tie.Need-cast-result
 cast-result c = search needs

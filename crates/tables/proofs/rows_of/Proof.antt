@@ -1,8 +1,7 @@
-use Prim.Native.Nat.{_+_, _*_}
 use mathlib.Core.Path.{ap, _∙_}
 use native.Mathlib.Omega.{arith}
 use Rattle.plan.specs.declared.Shape.{Shape}
-use Rattle.plan.specs.Image.{wordAt, trailerAt, trailerBytes, tables, offset, rows}
+use Rattle.plan.specs.Image.{wordAt, trailerBytes, tables, rows}
 use Rattle.tables.proofs.Shapes.{number-most}
 use borrow.Author.Needs.{needs}
 use Rattle.tables.proofs.rows_of.Statement.{statement}

@@ -1,4 +1,4 @@
-use mathlib.Core.Path.{_≡_, refl, sym, _∙_}
+use mathlib.Core.Path.{refl, sym, _∙_}
 use Rattle.terms.proofs.Naming.{window-core-below}
 use Rattle.terms.proofs.Charges.{pays-at-zero, pays-alone, keeps}
 use borrow.Author.Needs.{needs}

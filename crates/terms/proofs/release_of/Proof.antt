@@ -1,4 +1,4 @@
-use Prim.Native.Nat.{_^_, _<_, _*_, _+_}
+use Prim.Native.Nat.{_^_, _<_}
 use native.Mathlib.Omega.{arith}
 use Rattle.terms.proofs.Products.{product-fits}
 use Rattle.plan.specs.Questions.{release}

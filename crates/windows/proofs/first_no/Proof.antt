@@ -1,77 +1,65 @@
-use Prim.Native.Nat.{ℕ, _-_, _≤_}
-use mathlib.Core.Path.{_≡_, refl, sym, ap, subst, _∙_}
+use Prim.Native.Nat.{ℕ, _-_}
+use mathlib.Core.Path.{sym, ap, subst, _∙_}
 use native.Mathlib.Omega.{arith}
-use native.Mathlib.Numerals.{add-one}
-use borrow.Author.Tests.{not-true, not-false}
-use Rattle.plan.specs.declared.Found.the-variants.{Nothing}
-use Rattle.plan.specs.Image.{rows}
-use Rattle.plan.specs.Search.{firstNo}
-use Rattle.plan.specs.Questions.{questionAt, pieceQuestions}
-use Rattle.plan.proofs.Searching.{turn-yes, stops}
-use Rattle.windows.proofs.Asked.{asked}
+use Rattle.plan.specs.Questions.{questionAt, each, pieceQuestions}
+use Rattle.plan.specs.Held.{Passed, refusing}
+use Rattle.places.specs.Places.{tableFor}
+use Rattle.clashes.specs.Clashes.{clearOf}
+use Rattle.clashes.proofs.Clashing.{windows-last, pieces-last}
+use Rattle.windows.proofs.Asked.{is-row}
+use borrow.Author.Needs.{needs}
 use Rattle.windows.proofs.first_no.Statement.{statement}
 use Rattle.windows.proofs.first_no.Tie as tie
 use Rattle.windows.proofs.first_no.Reads as reads
 use Rattle.windows.proofs.first_no.Lts as lts
-use Rattle.tables.proofs.rows_of.Reads as rows-of-reads
-use Rattle.windows.proofs.passes.Reads as passes-reads
-use Rattle.windows.proofs.table_of.Reads as table-of-reads
+use Rattle.clashes.proofs.first_clash.Reads as first-clash-reads
+use Rattle.inside.proofs.first_outside.Reads as first-outside-reads
+use Rattle.windows.proofs.first_row.Reads as first-row-reads
 
-abbrev Inv-loop : tie.InvT-loop
-Inv-loop image charges number n row₀ row = (row ≤ n) × (firstNo row (questionAt (pieceQuestions image) (number - 7) .ok) ≡ Nothing)
+-- src/lib.rt:113:14
+first-clash-requires : tie.Need-first-clash-requires
+first-clash-requires c κs = let p = c .before .before .before .pre in let a = c .before .before .before .args in let s = a .image .now in let k : Passed (pieceQuestions s) 1 = subst (λ (n : ℕ). Passed (pieceQuestions s) (n - 7)) (c .match .keys1) (p .1 .1) in (p .0 .0, windows-last s 1 k (omega arith))
 
-abbrev μ-loop : tie.MeasureT-loop
-μ-loop image charges number n row₀ row = n - row
+-- src/lib.rt:114:15
+first-outside-requires : tie.Need-first-outside-requires
+first-outside-requires c κs = let p = c .before .before .before .pre in let a = c .before .before .before .args in let s = a .image .now in let k : Passed (pieceQuestions s) 4 = subst (λ (n : ℕ). Passed (pieceQuestions s) (n - 7)) (c .match .keys2) (p .1 .1) in (p .0 .0, (k, p .1 .0))
 
--- src/lib.rt:247:31
-table-of-requires : tie.Need-table-of-requires Inv-loop μ-loop
-table-of-requires c κs = tt
+-- src/lib.rt:115:15
+first-clash-requires-2 : tie.Need-first-clash-requires-2
+first-clash-requires-2 c κs = let p = c .before .before .before .pre in let a = c .before .before .before .args in let s = a .image .now in let k : Passed (pieceQuestions s) 5 = subst (λ (n : ℕ). Passed (pieceQuestions s) (n - 7)) (c .match .keys3) (p .1 .1) in (p .0 .0, pieces-last s 5 k (omega arith))
 
--- src/lib.rt:247:9
-rows-of-requires : tie.Need-rows-of-requires Inv-loop μ-loop
-rows-of-requires c κs = c .before .before .before .pre .0 .0 .inside .trailer
+-- src/lib.rt:116:14
+first-row-requires : tie.Need-first-row-requires
+first-row-requires c κs = let p = c .before .before .before .pre in let r = c .match .rest in (p .0 .0, (is-row _ (p .0 .1 .0) (p .0 .1 .1) (r .0 .0 .1) (r .0 .1) (r .1), p .1 .0))
 
--- src/lib.rt:249:5
-loop-holds : tie.Need-loop-holds Inv-loop μ-loop
-unfolding firstNo
-loop-holds c = (omega arith, refl)
+-- src/lib.rt:107:1
+returns : tie.Need-returns
+unfolding questionAt each pieceQuestions tableFor clearOf
+returns c = let a = c .before .before .before .before .args in let s = a .image .now in c .first-clash .ensures ∙ sym (ap (λ (n : ℕ). refusing (questionAt (pieceQuestions s) (n - 7))) (c .before .match .keys1))
 
--- src/lib.rt:250:13
-passes-requires : tie.Need-passes-requires Inv-loop μ-loop
-passes-requires c κs = let l = c .before .loop in let a = c .before .before .before .before .before .before .args in let p = c .before .before .before .before .before .before .pre in let s = a .image .now in let q = questionAt (pieceQuestions s) (a .number - 7) in let g : c .before .before .rows-of .result ≡ q .many = c .before .before .rows-of .ensures ∙ ap (rows s) (c .before .before .before .table-of .ensures) ∙ sym (asked s (a .number) (p .0 .1 .0) (p .0 .1 .1) .many) in (p .0, (rw (← g) (c .loop-test .taken), p .1))
+-- src/lib.rt:107:1
+returns-2 : tie.Need-returns-2
+unfolding questionAt each pieceQuestions tableFor clearOf
+returns-2 c = let a = c .before .before .before .before .args in let s = a .image .now in c .first-outside .ensures ∙ sym (ap (λ (n : ℕ). refusing (questionAt (pieceQuestions s) (n - 7))) (c .before .match .keys2))
 
--- src/lib.rt:251:13
-returns : tie.Need-returns Inv-loop μ-loop
-returns c = let b = c .before in let l = b .before .before .loop in let a = c .before .before .before .before .before .before .before .before .args in let p = c .before .before .before .before .before .before .before .before .pre in let s = a .image .now in let q = questionAt (pieceQuestions s) (a .number - 7) in let g : c .before .before .before .before .rows-of .result ≡ q .many = c .before .before .before .before .rows-of .ensures ∙ ap (rows s) (c .before .before .before .before .before .table-of .ensures) ∙ sym (asked s (a .number) (p .0 .1 .0) (p .0 .1 .1) .many) in sym (stops (q .ok) (q .many) (l .row) (l .inv .1) (rw (← g) (b .before .loop-test .taken)) (sym (b .passes .ensures) ∙ not-true _ (c .if1 .taken)))
+-- src/lib.rt:107:1
+returns-3 : tie.Need-returns-3
+unfolding questionAt each pieceQuestions tableFor clearOf
+returns-3 c = let a = c .before .before .before .before .args in let s = a .image .now in c .first-clash2 .ensures ∙ sym (ap (λ (n : ℕ). refusing (questionAt (pieceQuestions s) (n - 7))) (c .before .match .keys3))
 
--- src/lib.rt:253:9
-add-row : tie.Need-add-row Inv-loop μ-loop
-add-row c = omega arith
-
--- src/lib.rt:249:5
-loop-less : tie.Need-loop-less Inv-loop μ-loop
-loop-less c = omega arith
-
--- src/lib.rt:249:5
-loop-again : tie.Need-loop-again Inv-loop μ-loop
-loop-again c = let b = c .before in let l = b .before .before .loop in let a = c .before .before .before .before .before .before .before .before .args in let p = c .before .before .before .before .before .before .before .before .pre in let s = a .image .now in let q = questionAt (pieceQuestions s) (a .number - 7) in let g : c .before .before .before .before .rows-of .result ≡ q .many = c .before .before .before .before .rows-of .ensures ∙ ap (rows s) (c .before .before .before .before .before .table-of .ensures) ∙ sym (asked s (a .number) (p .0 .1 .0) (p .0 .1 .1) .many) in (omega arith, rw add-one (turn-yes (q .ok) (l .row) (l .inv .1) (sym (b .passes .ensures) ∙ not-false _ (c .if1 .left))))
-
--- src/lib.rt:243:1
-returns-2 : tie.Need-returns-2 Inv-loop μ-loop
-returns-2 c = let l = c .before .loop in let a = c .before .before .before .before .before .before .args in let p = c .before .before .before .before .before .before .pre in let s = a .image .now in let q = questionAt (pieceQuestions s) (a .number - 7) in let g : c .before .before .rows-of .result ≡ q .many = c .before .before .rows-of .ensures ∙ ap (rows s) (c .before .before .before .table-of .ensures) ∙ sym (asked s (a .number) (p .0 .1 .0) (p .0 .1 .1) .many) in let e : l .row ≡ q .many = omega arith in sym (subst (λ (n : ℕ). firstNo n (q .ok) ≡ Nothing) e (l .inv .1))
+-- src/lib.rt:107:1
+returns-4 : tie.Need-returns-4
+returns-4 c = search needs
 
 pub first-no-spec : {M : Type 1} → statement M
 first-no-spec =
     tie.close
     (tie.spec
-    Inv-loop
-    μ-loop
-    table-of-requires
-    rows-of-requires
-    loop-holds
-    passes-requires
+    first-clash-requires
+    first-outside-requires
+    first-clash-requires-2
+    first-row-requires
     returns
-    add-row
-    loop-less
-    loop-again
-    returns-2)
+    returns-2
+    returns-3
+    returns-4)

@@ -7,7 +7,7 @@ use Rattle.windows.proofs.window_fits.Lts as lts
 use Rattle.tables.proofs.cycle_ticks.Reads as cycle-ticks-reads
 use Rattle.tables.proofs.window_at.Reads as window-at-reads
 use Rattle.terms.proofs.window_end.Reads as window-end-reads
-use Rattle.windows.proofs.charge_at.Reads as charge-at-reads
+use Rattle.charges.proofs.charge_at.Reads as charge-at-reads
 
 -- src/lib.rt:59:16
 charge-at-requires : tie.Need-charge-at-requires

@@ -1,42 +1,57 @@
-use mathlib.Core.Path.{sym, ap, subst, _∙_}
-use native.Mathlib.Omega.{arith}
-use Rattle.plan.specs.declared.Answer.{Answer}
-use Rattle.lanes.proofs.Building.{accepted-of}
+use Rattle.writing.proofs.AllTables.{all-refused}
 use Rattle.writing.specs.AllTables.{BuiltAll}
-use Rattle.writing.proofs.AllTables.{all-refused, all-short, all-done}
+use Rattle.plan.proofs.Numbers.{accepted-of}
+use Rattle.plan.specs.declared.Answer.{Answer}
+use native.Mathlib.Omega.{arith}
+use mathlib.Core.Path.{refl, sym, ap, subst, _∙_}
 use borrow.Author.Needs.{needs}
 use Rattle.writing.proofs.build_all.Statement.{statement}
 use Rattle.writing.proofs.build_all.Tie as tie
 use Rattle.writing.proofs.build_all.Reads as reads
 use Rattle.writing.proofs.build_all.Lts as lts
-use Rattle.plan.proofs.accepted.Reads as accepted-reads
+use Rattle.lanes.proofs.gather.Reads as gather-reads
 use Rattle.questions.proofs.check.Reads as check-reads
-use Rattle.writing.proofs.words_of_all.Reads as words-of-all-reads
-use Rattle.writing.proofs.write_all.Reads as write-all-reads
+use Rattle.writing.proofs.fill_all.Reads as fill-all-reads
 
+-- src/lib.rt:183:9
 check-requires : tie.Need-check-requires
 check-requires c κs = search needs
 
+-- src/lib.rt:185:9
 returns : tie.Need-returns
 returns c = let a = c .before .before .before .before .before .args in let s = a .image .now in let b = a .bytes .now in let e = c .before .before .check .ensures in subst (λ (r : Answer). BuiltAll s b r b) (sym e) (all-refused s b (λ z. absurd (omega (arith, c .if1 .taken, ap (λ (x : Answer). x .number) e, z))))
 
-words-of-all-requires : tie.Need-words-of-all-requires
-words-of-all-requires c κs = let a = c .before .before .before .before .before .args in let s = a .image .now in let p = accepted-of s (sym (ap (λ (x : Answer). x .number) (c .before .before .check .ensures)) ∙ c .if1 .left) in p
+-- src/lib.rt:189:26
+slice-aggregate-gather : tie.Need-slice-aggregate-gather
+slice-aggregate-gather c = search needs
 
-returns-2 : tie.Need-returns-2
-returns-2 c = let a = c .before .before .before .before .before .before .before .args in let s = a .image .now in let p = accepted-of s (sym (ap (λ (x : Answer). x .number) (c .before .before .before .before .check .ensures)) ∙ c .before .before .if1 .left) in all-short s (a .bytes .now) p (omega (arith, c .before .words-of-all .ensures, c .if2 .taken))
+-- src/lib.rt:189:40
+slice-aggregate-gather-2 : tie.Need-slice-aggregate-gather-2
+slice-aggregate-gather-2 c = search needs
 
-write-all-requires : tie.Need-write-all-requires
-write-all-requires c κs = let a = c .before .before .before .before .before .before .before .before .args in let s = a .image .now in let p = accepted-of s (sym (ap (λ (x : Answer). x .number) (c .before .before .before .before .before .check .ensures)) ∙ c .before .before .before .if1 .left) in (p, omega (arith, c .before .before .words-of-all .ensures, c .before .if2 .left))
+-- src/lib.rt:189:5
+gather-requires : tie.Need-gather-requires
+gather-requires c κs = let s = c .before .before .before .before .before .before .before .args .image .now in (accepted-of s (sym (ap (λ (x : Answer). x .number) (c .before .before .before .before .check .ensures)) ∙ c .before .before .if1 .left), (refl, refl))
 
-accepted-requires : tie.Need-accepted-requires
-accepted-requires c κs = search needs
+-- src/lib.rt:190:21
+slice-aggregate-fill-all : tie.Need-slice-aggregate-fill-all
+slice-aggregate-fill-all c = search needs
 
+-- src/lib.rt:190:31
+slice-aggregate-fill-all-2 : tie.Need-slice-aggregate-fill-all-2
+slice-aggregate-fill-all-2 c = search needs
+
+-- src/lib.rt:190:5
+fill-all-requires : tie.Need-fill-all-requires
+fill-all-requires c κs = search needs
+
+-- src/lib.rt:180:1
 same-length : tie.Need-same-length
 same-length c = search needs
 
-returns-3 : tie.Need-returns-3
-returns-3 c = let a = c .before .before .before .before .before .before .before .before .before .before .before .before .args in let s = a .image .now in let p = accepted-of s (sym (ap (λ (x : Answer). x .number) (c .before .before .before .before .before .before .before .before .before .check .ensures)) ∙ c .before .before .before .before .before .before .before .if1 .left) in rw (c .accepted .ensures, c .before .before .before .write-all .ensures) (all-done s (a .bytes .now) p (omega (arith, c .before .before .before .before .before .before .words-of-all .ensures, c .before .before .before .before .before .if2 .left)))
+-- src/lib.rt:180:1
+returns-2 : tie.Need-returns-2
+returns-2 c = search needs
 
 pub build-all-spec : {M : Type 1} → statement M
 build-all-spec =
@@ -44,9 +59,11 @@ build-all-spec =
     (tie.spec
     check-requires
     returns
-    words-of-all-requires
-    returns-2
-    write-all-requires
-    accepted-requires
+    slice-aggregate-gather
+    slice-aggregate-gather-2
+    gather-requires
+    slice-aggregate-fill-all
+    slice-aggregate-fill-all-2
+    fill-all-requires
     same-length
-    returns-3)
+    returns-2)

@@ -22,7 +22,7 @@ add-if1 : tie.Need-add-if1
 add-if1 c = search needs
 
 returns : tie.Need-returns
-returns c = let a = c .before .before .before .before .args in let p = c .before .before .before .before .pre in bytes-short (a .image .now) (a .lane) (a .bytes .now) (p .0) (p .1) (omega (arith, c .before .count-entries .ensures, c .if1 .taken))
+returns c = let a = c .before .before .before .before .before .before .args in let p = c .before .before .before .before .before .before .pre in bytes-short (a .image .now) (a .lane) (a .bytes .now) (p .0 .passed) (p .1) (omega (arith, c .before .count-entries .ensures, c .if1 .taken))
 
 write-table-requires : tie.Need-write-table-requires
 write-table-requires c κs = search needs
@@ -34,7 +34,7 @@ same-length : tie.Need-same-length
 same-length c = search needs
 
 returns-2 : tie.Need-returns-2
-returns-2 c = let a = c .before .before .before .before .before .before .before .before .before .args in let p = c .before .before .before .before .before .before .before .before .before .pre in rw (c .accepted .ensures, c .before .before .before .write-table .ensures .1) (bytes-done (a .image .now) (a .lane) (a .bytes .now) (p .0) (p .1) (omega (arith, c .before .before .before .before .before .before .count-entries .ensures, c .before .before .before .before .before .if1 .left)))
+returns-2 c = let a = c .before .before .before .before .before .before .before .before .before .before .before .args in let p = c .before .before .before .before .before .before .before .before .before .before .before .pre in rw (c .accepted .ensures, c .before .before .before .write-table .ensures .1) (bytes-done (a .image .now) (a .lane) (a .bytes .now) (p .0 .passed) (p .1) (omega (arith, c .before .before .before .before .before .before .count-entries .ensures, c .before .before .before .before .before .if1 .left)))
 
 pub fill-spec : {M : Type 1} → statement M
 fill-spec =

@@ -17,7 +17,7 @@ write-entries-requires : tie.Need-write-entries-requires
 write-entries-requires c κs = search needs
 
 cycle-ticks-requires : tie.Need-cycle-ticks-requires
-cycle-ticks-requires c κs = accepted-sound _ (c .before .before .before .before .before .before .before .pre .0) .inside .trailer
+cycle-ticks-requires c κs = accepted-sound _ (c .before .before .before .before .before .before .before .before .before .pre .0 .0 .passed) .inside .trailer
 
 put-word-requires : tie.Need-put-word-requires
 put-word-requires c κs = search needs
@@ -32,7 +32,7 @@ same-length : tie.Need-same-length
 same-length c = search needs
 
 returns : tie.Need-returns
-returns c = let a = c .before .before .before .before .before .before .before .before .before .before .before .before .before .before .before .args in let e = c .before .before .before .before .before .before .before .before .before .before .before .write-entries .ensures in (e .0, rw (c .before .before .put-word2 .ensures, c .before .before .before .before .before .before .put-word .ensures, e .1) (table-stored (a .image .now) (a .lane) (a .bytes .now) (a .at) _ _ _ refl (c .before .before .before .before .before .before .before .cycle-ticks .ensures) (e .0)))
+returns c = let a = c .before .before .before .before .before .before .before .before .before .before .before .before .before .before .before .before .before .args in let e = c .before .before .before .before .before .before .before .before .before .before .before .write-entries .ensures in (e .0, rw (c .before .before .put-word2 .ensures, c .before .before .before .before .before .before .put-word .ensures, e .1) (table-stored (a .image .now) (a .lane) (a .bytes .now) (a .at) _ _ _ refl (c .before .before .before .before .before .before .before .cycle-ticks .ensures) (e .0)))
 
 pub write-table-spec : {M : Type 1} → statement M
 write-table-spec =

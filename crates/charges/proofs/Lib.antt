@@ -1,0 +1,2 @@
+pub mod Charging
+pub mod Keeping

@@ -1,0 +1,24 @@
+-- The charge of every window, found once and kept in a word each.
+use Prim.Native.Nat.{ℕ, _<_}
+use mathlib.Core.Path.{_≡_}
+use mathlib.Core.List.{List}
+use lib.ListN.{length, getD}
+use Rattle.plan.specs.declared.Table.the-variants.{Windows}
+use Rattle.plan.specs.Image.{rows, window}
+use Rattle.plan.specs.Questions.{windowEnd, charge}
+use Rattle.tallies.specs.Tallies.{latest}
+
+-- the latest end of the windows below n of a VCPU, and of the windows below w of w's own
+unfoldable pub endsBefore : List ℕ → ℕ → ℕ → ℕ
+endsBefore s = latest (λ u. window s u .vcpu) (windowEnd s)
+
+unfoldable pub endBefore : List ℕ → ℕ → ℕ
+endBefore s w = endsBefore s w (window s w .vcpu)
+
+-- of the windows below n
+pub record ChargedTo (s charges : List ℕ) (n : ℕ) : Type 0 where
+  pub size : length charges ≡ 1024
+  pub each : (w : ℕ) → w < n → getD charges w 0 ≡ charge s w
+
+abbrev pub Charged : List ℕ → List ℕ → Type 0
+Charged s charges = ChargedTo s charges (rows s Windows)

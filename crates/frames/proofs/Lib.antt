@@ -1,0 +1,4 @@
+pub mod Placing
+pub mod Gathering
+pub mod Once
+pub mod Reading
