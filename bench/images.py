@@ -168,6 +168,12 @@ def refused_late():
     return encode(cycle, **rows)
 
 
+def two_nodes(period):
+    """A core with one window on each of two nodes, and a link each way."""
+    window = [[0, 0, period], [1, 0, period]]
+    return {"core": [[0, 0, 0], [1, 0, 0]], "vcpu": [[0], [1]], "window": window, "link": [[0, 1, 1, 352], [1, 0, 1, 352]]}
+
+
 def diamond():
     """Two messages between neighbours along a row of 64 tasks, streams between two nodes and then buffers on one: 2^63 paths. Each of 32
     chains goes to one more task, which only the last message of the first task leads to, so that a walk looks at all others before."""
@@ -179,12 +185,9 @@ def diamond():
     buffers = [list(pair) for pair in pairs[32:] for _ in range(2)] + [[0, 64], [0, 64]]
     return encode(
         period,
-        core=[[0, 0, 0], [1, 0, 0]],
-        vcpu=[[0], [1]],
+        **two_nodes(period),
         task=tasks,
-        window=[[0, 0, period], [1, 0, period]],
         piece=[[row, 0, 16 * row, 1] for row in range(65)],
-        link=[[0, 1, 1, 352], [1, 0, 1, 352]],
         stream=streams,
         frame=frames,
         buffer=[[number, *ends] for number, ends in enumerate(buffers)],
@@ -199,12 +202,9 @@ def long_chain():
     tasks = [[row % 2 if row < 65 else 0, 3, period, 1, period] for row in range(129)]
     return encode(
         period,
-        core=[[0, 0, 0], [1, 0, 0]],
-        vcpu=[[0], [1]],
+        **two_nodes(period),
         task=tasks,
-        window=[[0, 0, period], [1, 0, period]],
         piece=[[row, 0, 16 * row, 1] for row in range(129)],
-        link=[[0, 1, 1, 352], [1, 0, 1, 352]],
         stream=[[row, row + 1, 0, 1, 46] for row in range(64)],
         frame=[[row, 0, 0, row % 2, 16 * row + 4] for row in range(64)],
         buffer=[[number, 64 + number, 65 + number] for number in range(63)] + [[63, 0, 128]],

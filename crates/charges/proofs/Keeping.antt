@@ -8,18 +8,17 @@ use mathlib.Core.List.{List, _∷_, []}
 use native.Mathlib.Nat.{eq-or-lt-of-le}
 use native.Mathlib.Decide.{decLt}
 use native.Mathlib.Omega.{arith}
-use lib.ListN.{length, getD, set, replicate}
+use lib.ListN.{length, getD, set}
 use borrow.Author.Tests.{eq-eqb, eqb-true, eqb-false, ne-eqb, lt-ltb, le-ltb, not-true}
 use Rattle.plan.specs.declared.Table.the-variants.{Cores, Vcpus, Windows}
 use Rattle.plan.specs.Image.{rows, shape, window, core}
-use Rattle.plan.specs.Search.{any}
 use Rattle.plan.specs.Questions.{windowCore, windowEnd, keepsFrom, keepsCore, charge, orderWords}
 use Rattle.plan.specs.Reading.{Rises}
 use Rattle.plan.specs.Held.{Sound}
 use Rattle.plan.proofs.Searching.{and-true, any-stops}
-use Rattle.plan.proofs.Tests.{any-row}
+use Rattle.plan.proofs.Kept.{any-false}
 use Rattle.plan.proofs.Orders.{windows-rise}
-use Rattle.tallies.specs.Tallies.{tally, latest, Kept}
+use Rattle.tallies.specs.Tallies.{Kept}
 use Rattle.tallies.proofs.Tallying.{kept-at}
 use Rattle.tallies.proofs.Latest.{ends-by, latest-row, latest-fresh, latest-on}
 use Rattle.charges.specs.Charges.{endsBefore, endBefore}
@@ -53,12 +52,9 @@ module _ (words : ℕ → List ℕ) (n : ℕ) (up : (r : ℕ) → r < n → 1 �
           let d : suc r - 1 ≡ r = omega arith in
           rises-on (words q) (words r) (words (suc r)) (k (omega arith)) (subst (λ (x : ℕ). Rises (words x) (words (suc r))) d (up (suc r) m (omega arith)))
 
-no-any : (test : ℕ → Bool) (n : ℕ) → ((i : ℕ) → i < n → test i ≡ true → ⊥) → any n test ≡ false
-no-any test n h = go (any n test) refl
-  where
-    go : (b : Bool) → any n test ≡ b → b ≡ false
-    go true e = let w = any-row test n e in absurd (h (w .0) (w .1) (w .2))
-    go false e = refl
+not-yes : (b : Bool) → (b ≡ true → ⊥) → b ≡ false
+not-yes true h = absurd (h refl)
+not-yes false h = refl
 
 module _ (s : List ℕ) (h : Sound s) where
   -- of windows of one VCPU that begin together the later row is no shorter
@@ -126,7 +122,7 @@ module _ (s : List ℕ) (h : Sound s) where
 
     pub pays : endBefore s w < window s w .start → 0 < window s w .length → core s (windowCore s w) .v ≡ charge s w
     unfolding charge keepsCore
-    pays e p = rw (no-any (keepsFrom s w) (rows s Windows) (none-keeps e p), lt-ltb 0 (window s w .start) (omega arith)) refl
+    pays e p = rw (any-false (rows s Windows) (keepsFrom s w) (λ u m. not-yes (keepsFrom s w u) (none-keeps e p u m)), lt-ltb 0 (window s w .start) (omega arith)) refl
 
   pub core-exists : (w : ℕ) → w < rows s Windows → windowCore s w < rows s Cores
   unfolding windowCore

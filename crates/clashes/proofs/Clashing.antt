@@ -6,7 +6,7 @@ use native.Mathlib.Nat.{le-div-iff-mul-le}
 use native.Mathlib.Numerals.{add-one}
 use native.Mathlib.Omega.{arith}
 use lib.Dec.{eqb, leb}
-use lib.ListN.{length, getD, set, replicate}
+use lib.ListN.{length, getD, set}
 use borrow.Author.Tests.{le-leb, lt-leb}
 use Rattle.plan.specs.declared.Found.the-variants.{At, Nothing}
 use Rattle.plan.specs.declared.Table.the-variants.{Cores, Vcpus, Tasks, Windows, Pieces, Links, Streams, Frames}
@@ -20,7 +20,7 @@ use Rattle.plan.proofs.Passing.{windows-fit, pieces-fit}
 use Rattle.places.specs.declared.Occupant.{Occupant}
 use Rattle.places.specs.declared.Occupant.the-variants.{Piece, Window, Frame}
 use Rattle.places.specs.Places.{tableFor, placeOf, fromOf, toOf}
-use Rattle.tallies.specs.Tallies.{tally, latest, Kept}
+use Rattle.tallies.specs.Tallies.{latest, Kept}
 use Rattle.tallies.proofs.Tallying.{kept-at}
 use Rattle.tallies.proofs.Latest.{latest-fresh, latest-on, clear-latest}
 use Rattle.clashes.specs.Clashes.{clearOf, Lasting}

@@ -4,18 +4,16 @@ use mathlib.Core.Path.{_≡_, refl, sym, ap, _∙_, subst}
 use mathlib.Core.Logic.{_⊎_, inl, inr}
 use mathlib.Core.List.{List}
 use native.Mathlib.Nat.{not-suc-le-zero, eq-or-lt-of-le, le-of-suc-le-suc}
-use native.Mathlib.Numerals.{add-one}
 use native.Mathlib.Omega.{arith}
 use lib.Dec.{eqb}
 use lib.ListN.{length, getD, set, length-set, replicate, length-replicate, getD-replicate}
-use lib.Seq.{getD-set-same, getD-set-other}
 use Rattle.plan.specs.declared.Table.the-variants.{Streams, Frames}
 use Rattle.plan.specs.Image.{rows, stream}
 use Rattle.plan.specs.Search.{sum, count}
 use Rattle.plan.specs.Held.{Sound}
 use Rattle.plan.proofs.Searching.{sum-turn, count-most}
 use Rattle.tallies.specs.Tallies.{tally, Kept}
-use Rattle.tallies.proofs.Tallying.{kept-apart, kept-as, kept-at, tally-none, tally-at, tally-other, tally-next, tally-skip, tally-sum}
+use Rattle.tallies.proofs.Tallying.{kept-apart, kept-as, kept-at, kept-none, kept-on, tally-none, tally-at, tally-other, tally-next, tally-skip, tally-sum}
 use Rattle.frames.proofs.Placing.{frames-most, streams-most}
 use Rattle.frames.specs.Index.{span, place, framePlace, begins, manyAt, lastAt, Taken, takenAt}
 
@@ -25,9 +23,6 @@ pub record Begun (s index : List ℕ) (n : ℕ) : Type 0 where
   pub starts : Kept index 0 n (begins s)
   pub counts : Kept index 64 512 (λ _. 0)
   pub lasts : Kept index 576 512 (λ _. 0)
-
-from-0 : (p : ℕ) → 0 + p ≡ p
-from-0 p = omega arith
 
 -- ---- the streams' places
 
@@ -39,7 +34,7 @@ module _ (s : List ℕ) where
   begun-none =
       record {
         size = let z : ℕ = 0 in length-replicate 1088 z;
-        starts = record { room = omega arith; each = λ p l. absurd (not-suc-le-zero l) };
+        starts = kept-none (replicate 1088 0) 0 (begins s) (omega arith);
         counts = fresh-words 64 512 (omega arith);
         lasts = fresh-words 576 512 (omega arith);
       }
@@ -49,14 +44,10 @@ module _ (s : List ℕ) where
   begun-more index n x l e h =
       record {
         size = simp length-set (h .size);
-        starts = rw add-one (record { room = rw length-set (omega (arith, h .size)); each = λ p m. ap (λ (i : ℕ). getD (set index n x) i 0) (from-0 p) ∙ go p (eq-or-lt-of-le (le-of-suc-le-suc m)) });
+        starts = kept-on index n (begins s) (h .starts) (omega (arith, h .size)) x e;
         counts = kept-apart index 64 512 (λ _. 0) (h .counts) n x (inl l);
         lasts = kept-apart index 576 512 (λ _. 0) (h .lasts) n x (inl (omega arith));
       }
-    where
-      go : (p : ℕ) → (p ≡ n) ⊎ (p < n) → getD (set index n x) p 0 ≡ begins s p
-      go p (inl q) = subst (λ (i : ℕ). getD (set index n x) i 0 ≡ begins s i) (sym q) (getD-set-same index n x 0 (omega (arith, h .size)) ∙ e)
-      go p (inr q) = getD-set-other index n p x 0 (λ d. omega arith) ∙ kept-at index n (begins s) (h .starts) p q
 
   pub begins-none : 0 ≡ begins s 0
   unfolding begins sum

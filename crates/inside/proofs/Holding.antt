@@ -7,7 +7,7 @@ use mathlib.Core.List.{List}
 use native.Mathlib.Decide.{decLt}
 use native.Mathlib.Numerals.{add-one}
 use native.Mathlib.Omega.{arith}
-use lib.ListN.{length, getD, set, replicate}
+use lib.ListN.{length, getD, set}
 use borrow.Author.Tests.{eqb-true, leb-true}
 use Rattle.plan.specs.declared.Table.the-variants.{Vcpus, Tasks, Windows, Pieces}
 use Rattle.plan.specs.Image.{rows, shape, vcpu, window, piece}
@@ -19,7 +19,7 @@ use Rattle.plan.proofs.Searching.{and-true, any-stops}
 use Rattle.plan.proofs.Tests.{any-row}
 use Rattle.plan.proofs.Orders.{windows-rise, pieces-rise}
 use Rattle.plan.proofs.Passing.{windows-fit, windows-apart, pieces-fit}
-use Rattle.tallies.specs.Tallies.{tally, latest, Kept}
+use Rattle.tallies.specs.Tallies.{latest, Kept}
 use Rattle.tallies.proofs.Tallying.{kept-at, tally-on}
 use Rattle.tallies.proofs.Latest.{ends-by, latest-by, latest-row, latest-fresh}
 use Rattle.charges.proofs.Keeping.{vcpu-most}

@@ -2,15 +2,14 @@
 use Prim.Native.Nat.{ℕ, zero, suc, _+_, _-_, _*_, _^_, _≤_, _<_, min, max}
 use mathlib.Core.Path.{_≡_, refl, sym, ap, _∙_, subst}
 use mathlib.Core.Bool.{Bool, true, false, cond, true≢false}
-use mathlib.Core.Logic.{_⊎_, inl, inr, _≢_}
-use native.Mathlib.Nat.{div-le-self, eq-or-lt-of-le, le-of-suc-le-suc, not-suc-le-zero}
+use mathlib.Core.Logic.{inl, inr, _≢_}
+use native.Mathlib.Nat.{div-le-self}
 use native.Mathlib.Decide.{ℕ-discrete}
-use native.Mathlib.Numerals.{add-one}
 use mathlib.Core.List.{List}
 use native.Mathlib.Omega.{arith}
 use lib.Dec.{eqb}
 use lib.ListN.{length, getD, set, length-set}
-use lib.Seq.{getD-set-same, getD-set-other}
+use lib.Seq.{getD-set-other}
 use borrow.Author.Tests.{eq-eqb, ne-eqb}
 use Rattle.plan.specs.declared.Table.the-variants.{Tasks, Pieces}
 use Rattle.plan.specs.Image.{rows, cycleTicks, task, piece, shape}
@@ -21,7 +20,7 @@ use Rattle.plan.proofs.Searching.{sum-turn}
 use Rattle.plan.proofs.Passing.{piece-ends}
 use Rattle.plan.proofs.Jobs.{of-job}
 use Rattle.tallies.specs.Tallies.{tally, Kept}
-use Rattle.tallies.proofs.Tallying.{kept-apart, kept-as, kept-more, kept-none, tally-none, tally-at, tally-other, tally-next, tally-skip, tally-sum, tally-largest, tally-smallest}
+use Rattle.tallies.proofs.Tallying.{kept-at, kept-on, kept-apart, kept-as, kept-more, kept-none, tally-none, tally-at, tally-other, tally-next, tally-skip, tally-sum, tally-largest, tally-smallest}
 use Rattle.tallies.proofs.Places.{place-below, place-one}
 use Rattle.jobs.specs.Times.{place, taskPlace, piecePlace, workOf, takenAt, Placed, Cleared, Gathered, AllGathered, Timed}
 use Rattle.jobs.proofs.Held.{job-of, piece-fits, all-placed}
@@ -62,7 +61,7 @@ module _ (s times : List ℕ) (h : Sound s) (m : ℕ) (p : Passed (pieceQuestion
   -- what the code adds up
   pub at-is : getD times (piece s i .task) 0 + piece s i .job ≡ at
   unfolding piecePlace
-  at-is = rw (g .placed .places (piece s i .task) task-exists) refl
+  at-is = rw (kept-at times (rows s Tasks) (taskPlace s) (g .placed .places) (piece s i .task) task-exists) refl
 
   pub at-fits : at ≤ 1002048
   unfolding piecePlace taskPlace jobs
@@ -73,7 +72,7 @@ module _ (s times : List ℕ) (h : Sound s) (m : ℕ) (p : Passed (pieceQuestion
 
   pub task-word : getD times (piece s i .task) 0 ≤ 2048
   unfolding taskPlace
-  task-word = let e = g .placed .places (piece s i .task) task-exists in omega arith
+  task-word = let e = kept-at times (rows s Tasks) (taskPlace s) (g .placed .places) (piece s i .task) task-exists in omega arith
 
   -- the switch is taken off, and the work fits
   pub switch-less : switchTicks s (piece s i .task) ≤ piece s i .length
@@ -152,9 +151,9 @@ module _ (s times : List ℕ) (h : Sound s) (m : ℕ) (p : Passed (pieceQuestion
         record {
           size = simp length-set (g .placed .size);
           places =
-              λ t lt. let c = h .inside .counts Tasks in
-              getD-set-other two (4352 + at) t w 0 (λ e. omega arith) ∙ getD-set-other one (2304 + at) t z 0 (λ e. omega arith)
-              ∙ getD-set-other times (256 + at) t x 0 (λ e. omega arith) ∙ g .placed .places t lt;
+              let n = rows s Tasks in let c = h .inside .counts Tasks in
+              kept-apart two 0 n _ (kept-apart one 0 n _ (kept-apart times 0 n _ (g .placed .places) (256 + at) x (inr (omega arith))) (2304 + at) z (inr (omega arith)))
+              (4352 + at) w (inr (omega arith));
         }
 
     pub taken-in : Gathered s (takenAt times at (piece s i .start) (pieceEnd s i) (workOf s i)) (i + 1)
@@ -215,10 +214,10 @@ module _ (cycle : ℕ) (times : List ℕ) (n : ℕ) (l : n < 2048) (h : Cleared 
 -- the places of the first n tasks are written
 pub record PlacedTo (s times : List ℕ) (n : ℕ) : Type 0 where
   pub cleared : Cleared (cycleTicks s) times 2048
-  pub places : (t : ℕ) → t < n → getD times t 0 ≡ taskPlace s t
+  pub places : Kept times 0 n (taskPlace s)
 
 pub placed-none : (s times : List ℕ) → Cleared (cycleTicks s) times 2048 → PlacedTo s times 0
-placed-none s times h = record { cleared = h; places = λ t l. absurd (not-suc-le-zero l) }
+placed-none s times h = record { cleared = h; places = kept-none times 0 (taskPlace s) (omega arith) }
 
 pub place-0 : (s : List ℕ) → 0 ≡ taskPlace s 0
 unfolding taskPlace sum
@@ -236,17 +235,9 @@ module _ (s times : List ℕ) (n : ℕ) (l : n < 256) (h : PlacedTo s times n) w
   abbrev v : ℕ
   v = taskPlace s n
 
-  written-task : (t : ℕ) → t < suc n → getD (set times n v) t 0 ≡ taskPlace s t
-  written-task t m = pick (eq-or-lt-of-le (le-of-suc-le-suc m))
-    where
-      pick : (t ≡ n) ⊎ (t < n) → getD (set times n v) t 0 ≡ taskPlace s t
-      pick (inl q) = subst (λ (x : ℕ). getD (set times n v) x 0 ≡ taskPlace s x) (sym q) (getD-set-same times n v 0 (let e = h .cleared .size in omega arith))
-      pick (inr q) = getD-set-other times n t v 0 (λ e. omega arith) ∙ h .places t q
-
   pub placed-more : PlacedTo s (set times n v) (n + 1)
   placed-more =
-      rw add-one
-      (record {
+      record {
         cleared =
             record {
               size = simp length-set (h .cleared .size);
@@ -254,8 +245,8 @@ module _ (s times : List ℕ) (n : ℕ) (l : n < 256) (h : PlacedTo s times n) w
               lasts = kept-apart times 2304 2048 _ (h .cleared .lasts) n v (inl (omega arith));
               works = kept-apart times 4352 2048 _ (h .cleared .works) n v (inl (omega arith));
             };
-        places = written-task;
-      })
+        places = kept-on times n (taskPlace s) (h .places) (let e = h .cleared .size in omega arith) v refl;
+      }
 
 -- all tasks have their places and no piece is in
 pub gathered-none : (s times : List ℕ) → PlacedTo s times (rows s Tasks) → Gathered s times 0
@@ -288,11 +279,11 @@ module _ (s times : List ℕ) (h : Sound s) (m : ℕ) (p : Passed (pieceQuestion
 pub place-of-task : (s times : List ℕ) → Placed s times (rows s Tasks) → (t k : ℕ) → t < rows s Tasks
     → ((getD times t 0 + k < 2048) → getD times t 0 + k ≡ place s t k) × ((2048 ≤ getD times t 0 + k) → 2048 ≤ place s t k)
 unfolding place taskPlace
-place-of-task s times h t k l = let e = h .places t l in (λ y. omega arith, λ y. omega arith)
+place-of-task s times h t k l = let e = kept-at times (rows s Tasks) (taskPlace s) (h .places) t l in (λ y. omega arith, λ y. omega arith)
 
 pub task-word-most : (s times : List ℕ) → Placed s times (rows s Tasks) → (t : ℕ) → t < rows s Tasks → getD times t 0 ≤ 2048
 unfolding taskPlace
-task-word-most s times h t l = let e = h .places t l in omega arith
+task-word-most s times h t l = let e = kept-at times (rows s Tasks) (taskPlace s) (h .places) t l in omega arith
 
 -- 13 is passed
 pub timed : (s times : List ℕ) (h : Sound s) → Passed (pieceQuestions s) 7 → AllGathered s times → Timed s times
@@ -310,7 +301,7 @@ timed s times h p g =
 module _ (s times : List ℕ) (h : Timed s times) (t k : ℕ) (l : t < rows s Tasks) (m : k < jobs s t) where
   pub place-inside : getD times t 0 + k < 2048
   unfolding place taskPlace
-  place-inside = let e = h .placed .places t l in omega (arith, place-most s (h .room) t k l m)
+  place-inside = let e = kept-at times (rows s Tasks) (taskPlace s) (h .placed .places) t l in omega (arith, place-most s (h .room) t k l m)
 
   word-place : getD times t 0 + k ≡ place s t k
   word-place = place-of-task s times (h .placed) t k l .0 place-inside

@@ -30,7 +30,7 @@ workOf s i = piece s i .length - switchTicks s (piece s i .task)
 -- the words have their length, and the places of the first n tasks are written
 pub record Placed (s times : List ℕ) (n : ℕ) : Type 0 where
   pub size : length times ≡ 6400
-  pub places : (t : ℕ) → t < n → getD times t 0 ≡ taskPlace s t
+  pub places : Kept times 0 n (taskPlace s)
 
 -- no piece has been taken in: of the first n places every first start is the cycle's end, and every last end and work 0
 pub record Cleared (cycle : ℕ) (times : List ℕ) (n : ℕ) : Type 0 where

@@ -3,7 +3,7 @@
 use Prim.Native.Nat.{ℕ, zero, suc, _+_, max, _<_, _≤_}
 use mathlib.Core.Path.{_≡_, refl, sym, ap, _∙_, subst}
 use mathlib.Core.Logic.{_⊎_, inl, inr, _≢_}
-use mathlib.Core.Bool.{Bool, true, false, true≢false}
+use mathlib.Core.Bool.{Bool}
 use mathlib.Core.List.{List}
 use native.Mathlib.Nat.{not-suc-le-zero, eq-or-lt-of-le, le-of-suc-le-suc}
 use native.Mathlib.Decide.{ℕ-discrete, decLt}
@@ -12,6 +12,7 @@ use lib.ListN.{getD, set}
 use lib.Dec.{eqb, leb}
 use Rattle.plan.specs.Search.{Interval, apart, clear}
 use Rattle.plan.specs.Reading.{Apart}
+use Rattle.plan.proofs.Shows.{bool-eq}
 use Rattle.plan.proofs.Tests.{Reads, r-eq, r-le, r-clear₁}
 use Rattle.tallies.specs.Tallies.{tally, latest, Kept}
 use Rattle.tallies.proofs.Tallying.{kept-as, tally-on, tally-none, tally-at, tally-other}
@@ -86,10 +87,7 @@ latest-on place end words many n h l = tally-on max 0 place end words many n h (
 
 -- tests that read statements which say the same are equal
 same-test : {a b : Bool} {A B : Type 0} → Reads a A → Reads b B → (A → B) → (B → A) → a ≡ b
-same-test {a = true} {b = true} f g h k = refl
-same-test {a = true} {b = false} f g h k = absurd (true≢false (sym (g .1 (h (f .0 refl)))))
-same-test {a = false} {b = true} f g h k = absurd (true≢false (sym (f .1 (k (g .0 refl)))))
-same-test {a = false} {b = false} f g h k = refl
+same-test {a} {b} f g h k = bool-eq a b (λ e. g .1 (h (f .0 e))) (λ e. f .1 (k (g .0 e)))
 
 -- the law
 module _ (place : ℕ → ℕ) (iv : ℕ → Interval) (r : ℕ) (up : (q : ℕ) → q < r → iv q .from ≤ iv r .from) (long : iv r .from < iv r .to) where

@@ -94,6 +94,11 @@ module _ (op : ℕ → ℕ → ℕ) (none : ℕ) (place value : ℕ → ℕ) whe
 pub kept-at : (words : List ℕ) (many : ℕ) (value : ℕ → ℕ) → Kept words 0 many value → (p : ℕ) → p < many → getD words p 0 ≡ value p
 kept-at words many value h p l = ap (λ (i : ℕ). getD words i 0) (sym (from-0 p)) ∙ h .each p l
 
+-- one word more
+pub kept-on : (words : List ℕ) (n : ℕ) (value : ℕ → ℕ) → Kept words 0 n value → n < length words → (x : ℕ) → x ≡ value n → Kept (set words n x) 0 (n + 1) value
+kept-on words n value h l x e =
+    subst (λ (i : ℕ). Kept (set words i x) 0 (n + 1) value) (from-0 n) (kept-more words 0 n value h (rw (from-0 n) l) x e)
+
 pub tally-on : (op : ℕ → ℕ → ℕ) (none : ℕ) (place value : ℕ → ℕ) (words : List ℕ) (many n : ℕ) → Kept words 0 many (tally op none place value n)
     → (x : ℕ) → place n < many → x ≡ op (getD words (place n) 0) (value n) → Kept (set words (place n) x) 0 many (tally op none place value (n + 1))
 tally-on op none place value words many n h x l e =

@@ -1,5 +1,7 @@
 use native.Mathlib.Omega.{arith}
-use Rattle.plan.specs.Image.{shape}
+use Rattle.plan.specs.Image.{rows, shape}
+use Rattle.plan.specs.Questions.{charge}
+use Rattle.tallies.proofs.Tallying.{kept-at}
 use Rattle.plan.specs.declared.Table.the-variants.{Windows}
 use borrow.Author.Needs.{needs}
 use Rattle.charges.proofs.charge_at.Statement.{statement}
@@ -18,7 +20,7 @@ shared-slice-read-result c = let p = c .before .pre in let m = p .1 .0 .inside .
 
 -- src/lib.rt:47:1
 returns : tie.Need-returns
-returns c = c .before .pre .0 .each (c .before .args .window) (c .before .pre .1 .1)
+returns c = let a = c .before .args in let s = a .image .now in let p = c .before .pre in kept-at (a .charges .now) (rows s Windows) (charge s) (p .0 .each) (a .window) (p .1 .1)
 
 pub charge-at-spec : {M : Type 1} → statement M
 charge-at-spec = tie.close (tie.spec mul-result shared-slice-read-result returns)

@@ -2,7 +2,6 @@ use borrow.Author.Needs.{needs}
 use Prim.Native.Nat.{_-_, _≤_, _<_}
 use mathlib.Core.Path.{_≡_, refl, sym, subst, _∙_}
 use native.Mathlib.Omega.{arith}
-use native.Mathlib.Numerals.{add-one}
 use lib.ListN.{length}
 use Rattle.plan.specs.declared.Table.the-variants.{Windows}
 use Rattle.plan.specs.Image.{rows, shape}
@@ -86,7 +85,7 @@ loop-less c = search needs
 -- src/lib.rt:45:5
 loop-again : tie.Need-loop-again Inv-loop μ-loop
 unfolding shape
-loop-again c = let a = c .before .before .before .before .before .before .before .before .before .before .before .before .before .before .args in let s = a .image .now in let p = c .before .before .before .before .before .before .before .before .before .before .before .before .before .before .pre in let l = c .before .before .before .before .before .before .before .before .before .loop in let i : l .window < rows s Windows = omega (arith, l .inv .1, c .before .before .before .before .before .before .before .before .loop-test .taken) in let m = p .0 .inside .counts Windows in let e = c .before .before .before .before .before .before .before .window-at .ensures in let g = c .before .before .raise in (omega arith, l .inv .1, g .kept .0 ∙ l .inv .2, rw (c .before .before .before .before .before .charge-after .ensures, add-one) (charged-more s (l .charges) (l .window) (omega (arith, i)) (l .inv .3)), rw (g .ensures, e, c .before .before .before .window-end .ensures) (ended-on s (p .0) (l .ends) (l .window) i (l .inv .4)))
+loop-again c = let a = c .before .before .before .before .before .before .before .before .before .before .before .before .before .before .args in let s = a .image .now in let p = c .before .before .before .before .before .before .before .before .before .before .before .before .before .before .pre in let l = c .before .before .before .before .before .before .before .before .before .loop in let i : l .window < rows s Windows = omega (arith, l .inv .1, c .before .before .before .before .before .before .before .before .loop-test .taken) in let m = p .0 .inside .counts Windows in let e = c .before .before .before .before .before .before .before .window-at .ensures in let g = c .before .before .raise in (omega arith, l .inv .1, g .kept .0 ∙ l .inv .2, rw (c .before .before .before .before .before .charge-after .ensures) (charged-more s (l .charges) (l .window) (omega (arith, i)) (l .inv .3)), rw (g .ensures, e, c .before .before .before .window-end .ensures) (ended-on s (p .0) (l .ends) (l .window) i (l .inv .4)))
 
 -- src/lib.rt:39:1
 same-length : tie.Need-same-length Inv-loop μ-loop
