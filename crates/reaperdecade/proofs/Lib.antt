@@ -5,3 +5,5 @@ pub mod States
 pub mod Runs
 pub mod Answers
 pub mod Loads
+pub mod Calls
+pub mod Witness

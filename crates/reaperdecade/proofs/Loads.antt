@@ -1,15 +1,16 @@
--- A load tool's calls are a run: what rd_build and rd_start leave meets the premises of demand 3, so what it says of runs holds of them.
+-- A load tool's calls are a run: loaded bytes meet the premises of demand 3, so what it says of runs holds of them.
 use Prim.Native.Nat.{ℕ, zero, suc, _+_, _-_, _*_, _^_, _≤_, _<_, min}
 use mathlib.Core.Path.{_≡_, refl, sym, ap, subst, _∙_}
-use mathlib.Core.List.{List, _∷_, _++_, [], flatMap}
-use native.Mathlib.Nat.{not-suc-le-zero, le-of-suc-le-suc}
+use mathlib.Core.Logic.{_⊎_, inl, inr}
+use mathlib.Core.List.{List, _∷_, _++_, [], flatMap, append-nil}
+use native.Mathlib.Nat.{not-suc-le-zero, eq-or-lt-of-le, le-of-suc-le-suc}
 use native.Mathlib.Omega.{arith}
-use lib.ListN.{length, getD, take, drop, length-take, length-drop, take-append-drop}
-use lib.Seq.{drop-drop, take-append-seam}
+use lib.ListN.{length, getD, take, drop, replicate, length-append, length-take, length-drop, take-append-drop, List·getD-append}
+use lib.Seq.{take-all, take-add, getD-at, take-append-seam}
 use Rattle.plan.specs.Questions.{answerOf, accepted}
 use Rattle.plan.specs.Dispatch.{lanes, tableOf, startState}
-use Rattle.plan.specs.Boundary.{bytesOf, wordsOf, stateOf, stateBytes, answerNumber, checkNumber}
-use Rattle.plan.specs.Runs.{Call, allLanes, oneLane, Named, Ready}
+use Rattle.plan.specs.Boundary.{bytesOf, wordsOf, stateBytes, answerNumber, checkNumber}
+use Rattle.plan.specs.Runs.{Call, allLanes, oneLane, gives, after, Named, Ready}
 use Rattle.plan.specs.declared.Answer.{Answer}
 use Rattle.plan.specs.declared.LaneState.{LaneState}
 use Rattle.plan.proofs.Demand.{demand-3}
@@ -17,9 +18,9 @@ use Rattle.writing.proofs.Bytes.{row-length}
 use Rattle.writing.proofs.Words.{Fit, words-row, words-drop}
 use Rattle.writing.proofs.Tables.{table-length}
 use Rattle.writing.proofs.Fitting.{table-fits}
-use Rattle.reaperdecade.specs.Loaded.{Loaded, rowBytes, givesBytes, afterBytes, Demand3ThroughC}
-use Rattle.reaperdecade.proofs.States.{InWidth, AllInWidth, round-trip}
-use Rattle.reaperdecade.proofs.Runs.{AllAmong, calls-of-bytes}
+use Rattle.reaperdecade.specs.Loaded.{Loaded, startsAt, rowBytes, givesBytes, afterBytes, Demand3ThroughC}
+use Rattle.reaperdecade.proofs.States.{InWidth, AllInWidth}
+use Rattle.reaperdecade.proofs.Runs.{AllAmong, append-row, calls-of-bytes}
 
 -- ---- words that bytes stand for
 
@@ -37,58 +38,51 @@ words-held ws t w held l n =
 abbrev none : LaneState
 none = startState 0 0
 
-unfoldable statesIn : ℕ → List ℕ → List LaneState
-statesIn zero b = []
-statesIn (suc n) b = stateOf (take 28 b) ∷ statesIn n (drop 28 b)
-
-states-many : (n : ℕ) (b : List ℕ) → length (statesIn n b) ≡ n
-unfolding statesIn
-states-many zero b = refl
-states-many (suc n) b = ap suc (states-many n (drop 28 b))
-
-next-record : (l : ℕ) (b : List ℕ) → take 28 (drop (28 * l) (drop 28 b)) ≡ take 28 (drop (28 * suc l) b)
-next-record l b =
-    let e : 28 + 28 * l ≡ 28 * suc l = omega arith in
-    ap (take 28) (drop-drop (28 * l) 28 b ∙ ap (λ (n : ℕ). drop n b) e)
-
-state-at : (n l : ℕ) (b : List ℕ) → l < n → getD (statesIn n b) l none ≡ stateOf (take 28 (drop (28 * l) b))
-unfolding statesIn
-state-at zero l b h = absurd (not-suc-le-zero h)
-state-at (suc n) zero b h = refl
-state-at (suc n) (suc l) b h = state-at n l (drop 28 b) (le-of-suc-le-suc h) ∙ ap stateOf (next-record l b)
-
 start-width : (c word : ℕ) → c < 2 ^ 64 → word < 2 ^ 32 → InWidth (startState c word)
 unfolding startState
 start-width c word hc hw = record { cycle = hc; tick = omega arith; entry = omega arith; first = hw; kind = omega arith; row = omega arith }
 
-module _ (c : ℕ) (hc : c < 2 ^ 64) where
-  -- every record below n is a start in cycle c
-  abbrev AllStart : ℕ → List ℕ → Type 0
-  AllStart n b = (l : ℕ) → l < n → (word : ℕ) × (word < 2 ^ 32) × (take 28 (drop (28 * l) b) ≡ stateBytes (startState c word))
+width-more : (sts : List LaneState) (st : LaneState) → AllInWidth sts → InWidth st → AllInWidth (sts ++ st ∷ [])
+width-more [] st w k = (k, tt)
+width-more (x ∷ sts) st w k = (w .0, width-more sts st (w .1) k)
 
-  rest : (n : ℕ) (b : List ℕ) → AllStart (suc n) b → AllStart n (drop 28 b)
-  rest n b h l k = let p = h (suc l) (omega arith) in (p .0, p .1, next-record l b ∙ p .2)
+pub one-row : (sts : List LaneState) (st : LaneState) → rowBytes (sts ++ st ∷ []) ≡ rowBytes sts ++ stateBytes st
+unfolding flatMap
+one-row sts st = append-row sts (st ∷ []) ∙ ap (λ (b : List ℕ). rowBytes sts ++ b) (append-nil (stateBytes st))
 
-  is-start : (n l : ℕ) (b : List ℕ) (h : AllStart n b) (k : l < n) → stateOf (take 28 (drop (28 * l) b)) ≡ startState c (h l k .0)
-  is-start n l b h k = let p = h l k in ap stateOf (p .2) ∙ round-trip (startState c (p .0)) (start-width c (p .0) hc (p .1))
+module _ (first : ℕ → ℕ) (c : ℕ) where
+  pub starts-many : (n : ℕ) → length (startsAt first c n) ≡ n
+  unfolding startsAt
+  starts-many zero = refl
+  starts-many (suc n) = length-append (startsAt first c n) (startState c (first n) ∷ []) ∙ omega (arith, starts-many n)
 
-  row-is : (n : ℕ) (b : List ℕ) → length b ≡ 28 * n → AllStart n b → b ≡ rowBytes (statesIn n b)
-  unfolding statesIn flatMap
-  row-is zero [] e h = refl
-  row-is zero (x ∷ b) e h = absurd (omega arith)
-  row-is (suc n) b e h =
-      let p = h 0 (omega arith) in
-      let q : take 28 b ≡ stateBytes (stateOf (take 28 b)) = p .2 ∙ ap stateBytes (sym (is-start (suc n) 0 b h (omega arith))) in
-      sym (take-append-drop 28 b)
-      ∙ ap (λ (x : List ℕ). x ++ drop 28 b) q
-      ∙ ap (λ (x : List ℕ). stateBytes (stateOf (take 28 b)) ++ x) (row-is n (drop 28 b) (length-drop 28 b ∙ omega arith) (rest n b h))
+  pub start-at : (n l : ℕ) → l < n → getD (startsAt first c n) l none ≡ startState c (first l)
+  unfolding startsAt
+  start-at zero l h = absurd (not-suc-le-zero h)
+  start-at (suc n) l h = go (eq-or-lt-of-le (le-of-suc-le-suc h)) (start-at n l)
+    where
+      go : (l ≡ n) ⊎ (l < n) → (l < n → getD (startsAt first c n) l none ≡ startState c (first l))
+          → getD (startsAt first c n ++ startState c (first n) ∷ []) l none ≡ startState c (first l)
+      go (inl e) k = getD-at (startsAt first c n) _ [] none l (starts-many n ∙ sym e) ∙ ap (λ (x : ℕ). startState c (first x)) (sym e)
+      go (inr q) k = List·getD-append (startsAt first c n) _ none l (omega (arith, starts-many n)) ∙ k q
 
-  row-width : (n : ℕ) (b : List ℕ) → AllStart n b → AllInWidth (statesIn n b)
-  unfolding statesIn
-  row-width zero b h = tt
-  row-width (suc n) b h =
-      let p = h 0 (omega arith) in
-      (rw (is-start (suc n) 0 b h (omega arith)) (start-width c (p .0) hc (p .1)), row-width n (drop 28 b) (rest n b h))
+  starts-width : c < 2 ^ 64 → (n : ℕ) → ((l : ℕ) → l < n → first l < 2 ^ 32) → AllInWidth (startsAt first c n)
+  unfolding startsAt
+  starts-width hc zero h = tt
+  starts-width hc (suc n) h =
+      width-more (startsAt first c n) (startState c (first n)) (starts-width hc n (λ l k. h l (omega arith))) (start-width c (first n) hc (h n (omega arith)))
+
+  -- the first n records
+  starts-row : (row : List ℕ) (n : ℕ) → ((l : ℕ) → l < n → take 28 (drop (28 * l) row) ≡ stateBytes (startState c (first l)))
+      → take (28 * n) row ≡ rowBytes (startsAt first c n)
+  unfolding startsAt flatMap
+  starts-row row zero h = refl
+  starts-row row (suc n) h =
+      let e : 28 * suc n ≡ 28 * n + 28 = omega arith in
+      ap (λ (k : ℕ). take k row) e ∙ take-add (28 * n) 28 row
+      ∙ ap (λ (b : List ℕ). b ++ take 28 (drop (28 * n) row)) (starts-row row n (λ l k. h l (omega arith)))
+      ∙ ap (λ (b : List ℕ). rowBytes (startsAt first c n) ++ b) (h n (omega arith))
+      ∙ sym (one-row (startsAt first c n) (startState c (first n)))
 
 -- ---- calls
 
@@ -105,7 +99,7 @@ among-right : (n : ℕ) (a b : List Call) → AllAmong n (a ++ b) → AllAmong n
 among-right n [] b h = h
 among-right n (c ∷ a) b h = among-right n a b (h .1)
 
-zero-accepted : (a : Answer) → answerNumber a ≡ 0 → a ≡ accepted
+pub zero-accepted : (a : Answer) → answerNumber a ≡ 0 → a ≡ accepted
 unfolding answerNumber
 zero-accepted a e =
     let n : a .number ≡ 0 = omega arith in
@@ -113,45 +107,56 @@ zero-accepted a e =
     let r : a .row ≡ 0 = omega arith in
     λ i. record { number = n i; table = t i; row = r i }
 
-module _ (s ws row : List ℕ) (c : ℕ) (g : Loaded s ws row c) where
+module _ (s ws row : List ℕ) (c : ℕ) (first : ℕ → ℕ) (g : Loaded s ws row c first) where
   plan : answerOf s ≡ accepted
   unfolding checkNumber
   plan = zero-accepted (answerOf s) (g .plan)
 
   abbrev states : List LaneState
-  states = statesIn (lanes s) row
-
-  starts : AllStart c (g .in-calendar) (lanes s) row
-  starts l h = let p = g .lane l h in (p .0, p .1, p .2)
+  states = startsAt first c (lanes s)
 
   ready : Ready s (wordsOf ws) states c
-  unfolding starts
   ready =
       record {
         plan = plan;
         in-calendar = g .in-calendar;
-        records = states-many (lanes s) row;
-        starts = λ l h. let p = g .lane l h in (
-          p .0,
-          state-at (lanes s) l row h ∙ is-start c (g .in-calendar) (lanes s) l row starts h,
-          words-held ws (tableOf s l) (p .0) (p .3) (omega (arith, table-length s l)) (table-fits s plan l),
+        records = starts-many first c (lanes s);
+        starts = λ l h. (
+          first l,
+          start-at first c (lanes s) l h,
+          words-held ws (tableOf s l) (first l) (g .built l h) (omega (arith, table-length s l)) (table-fits s plan l),
         );
       }
 
+  is-row : row ≡ rowBytes states
+  is-row = sym (take-all (28 * lanes s) row (omega (arith, g .records))) ∙ starts-row first c row (lanes s) (g .started)
+
+  module _ (calls : List Call) (h : Named s calls) where
+    among : AllAmong (length states) calls
+    among = among-all s (length states) (starts-many first c (lanes s)) calls h
+
+    width : AllInWidth states
+    width = starts-width first c (g .in-calendar) (lanes s) (g .narrow)
+
+    pub rows-are : (earlier later : List Call) → calls ≡ earlier ++ later → afterBytes ws row earlier ≡ rowBytes (after (wordsOf ws) states earlier)
+    rows-are earlier later q =
+        let k = subst (λ (x : List Call). AllAmong (length states) x) q among in
+        ap (λ (b : List ℕ). afterBytes ws b earlier) is-row ∙ calls-of-bytes ws (g .bytes) earlier states allLanes width (among-left _ earlier later k) tt .0
+
+    pub numbers-are : (earlier : List Call) (call : Call) (later : List Call) → calls ≡ earlier ++ call ∷ later
+        → givesBytes ws (afterBytes ws row earlier) call ≡ gives (wordsOf ws) (after (wordsOf ws) states earlier) call
+    numbers-are earlier call later q =
+        let k = subst (λ (x : List Call). AllAmong (length states) x) q among in
+        ap (λ (b : List ℕ). givesBytes ws (afterBytes ws b earlier) call) is-row
+        ∙ calls-of-bytes ws (g .bytes) earlier states call width (among-left _ earlier (call ∷ later) k) (among-right _ earlier (call ∷ later) k .0) .1
+
 -- rd_build, rd_start, rd_step and rd_step_all, as the load tool calls them, are a run of which demand 3 holds
 pub demand-3-through-c : Demand3ThroughC
-demand-3-through-c s ws row c g ahead near calls h =
-    let n = states-many (lanes s) row in
-    let w = row-width c (g .in-calendar) (lanes s) row (starts s ws row c g) in
-    let m = among-all s (length (statesIn (lanes s) row)) n calls h in
-    let e = row-is c (g .in-calendar) (lanes s) row (g .records) (starts s ws row c g) in
+demand-3-through-c s ws row c first g ahead near calls h =
+    let r = demand-3 s (wordsOf ws) (startsAt first c (lanes s)) c (ready s ws row c first g) ahead near calls h in
     record {
-      states = statesIn (lanes s) row;
-      holds = demand-3 s (wordsOf ws) (statesIn (lanes s) row) c (ready s ws row c g) ahead near calls h;
-      first-row = e;
-      last-row = ap (λ (b : List ℕ). afterBytes ws b calls) e ∙ calls-of-bytes ws (g .bytes) calls (statesIn (lanes s) row) allLanes w m tt .0;
-      number = λ earlier call later q.
-          let k = subst (λ (x : List Call). AllAmong (length (statesIn (lanes s) row)) x) q m in
-          ap (λ (b : List ℕ). givesBytes ws (afterBytes ws b earlier) call) e
-          ∙ calls-of-bytes ws (g .bytes) earlier (statesIn (lanes s) row) call w (among-left _ earlier (call ∷ later) k) (among-right _ earlier (call ∷ later) k .0) .1;
+      holds = r;
+      rows = rows-are s ws row c first g calls h;
+      number = λ earlier call later q. numbers-are s ws row c first g calls h earlier call later q ∙ r .number earlier call later q;
+      number-all = λ i later q. numbers-are s ws row c first g calls h (replicate i allLanes) allLanes later q ∙ r .number-all i later q;
     }

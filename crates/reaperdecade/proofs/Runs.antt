@@ -137,7 +137,7 @@ take-row (suc l) (st ∷ sts) =
     ∙ take-append-add (stateBytes st) (rowBytes sts) (28 * l)
     ∙ ap (λ (b : List ℕ). stateBytes st ++ b) (take-row l sts)
 
-append-row : (xs ys : List LaneState) → rowBytes (xs ++ ys) ≡ rowBytes xs ++ rowBytes ys
+pub append-row : (xs ys : List LaneState) → rowBytes (xs ++ ys) ≡ rowBytes xs ++ rowBytes ys
 unfolding flatMap
 append-row [] ys = refl
 append-row (x ∷ xs) ys = ap (λ (b : List ℕ). stateBytes x ++ b) (append-row xs ys) ∙ sym (append-assoc (stateBytes x) (rowBytes xs) (rowBytes ys))
@@ -147,7 +147,7 @@ module _ (sts : List LaneState) (l : ℕ) (h : l < length sts) where
   unfolding flatMap
   here = drop-row l sts ∙ ap rowBytes (drop-cons sts l none h)
 
-  record-at : take 28 (drop (28 * l) (rowBytes sts)) ≡ stateBytes (getD sts l none)
+  pub record-at : take 28 (drop (28 * l) (rowBytes sts)) ≡ stateBytes (getD sts l none)
   record-at = ap (take 28) here ∙ take-at (stateBytes (getD sts l none)) (rowBytes (drop (suc l) sts)) 28 (state-length (getD sts l none))
 
   rest-after : drop (28 * l + 28) (rowBytes sts) ≡ rowBytes (drop (suc l) sts)

@@ -1,28 +1,35 @@
--- What a load tool has before its first step, as bytes: an accepted image, each lane's table as rd_build left it, each lane's record as
--- rd_start left it. Calls of rd_step and rd_step_all follow; demand 3 speaks of them too.
-use Prim.Native.Nat.{ℕ, _+_, _*_, _^_, _<_, _≤_}
+-- Demand 3 through C, from the first call on: what rd_build_all or rd_build leaves, and rd_start, is what a run starts from; calls of
+-- rd_step and rd_step_all follow, and demand 3 speaks of them too.
+use Prim.Native.Nat.{ℕ, zero, suc, _+_, _-_, _*_, _/_, _^_, _<_, _≤_}
 use mathlib.Core.Path.{_≡_}
+use mathlib.Core.Bool.{cond}
 use mathlib.Core.List.{List, _∷_, _++_, [], flatMap}
-use lib.ListN.{length, getD, take, drop}
-use Rattle.plan.specs.Image.{precision}
+use lib.ListN.{length, getD, take, drop, replicate}
+use lib.Dec.{ltb}
+use Rattle.plan.specs.Image.{cycleTicks, precision}
 use Rattle.plan.specs.Dispatch.{lanes, tableOf, startState}
-use Rattle.plan.specs.Boundary.{wordsOf, bytesOf, stateBytes, checkNumber, stepNumber, stepBytes, stepAllNumber, stepAllBytes}
-use Rattle.plan.specs.Runs.{Call, allLanes, oneLane, gives, after, Named, RunHolds}
+use Rattle.plan.specs.Boundary.{wordsOf, bytesOf, stateBytes, checkNumber, buildNumber, buildBytes, startNumber, startBytes, stepNumber, stepBytes, stepAllNumber, stepAllBytes}
+use Rattle.plan.specs.Runs.{Call, allLanes, oneLane, after, atEnd, Named, RunHolds}
 use Rattle.plan.specs.declared.LaneState.{LaneState}
+use Rattle.writing.specs.AllTables.{allTables, allNumber, allBytes}
 
 abbrev pub AreBytes : List ℕ → Type 0
 AreBytes b = (i : ℕ) → getD b i 0 < 256
 
--- the words ws and the row of records hold all lanes of plan s at the start of cycle c
-pub record Loaded (s ws row : List ℕ) (c : ℕ) : Type 0 where
+-- the words ws and the row of records hold all lanes of plan s at the start of cycle c, lane l's table from word `first l` on
+pub record Loaded (s ws row : List ℕ) (c : ℕ) (first : ℕ → ℕ) : Type 0 where
   pub plan : checkNumber s ≡ 0
   pub in-calendar : c < 2 ^ 64
   pub bytes : AreBytes ws
   pub records : length row ≡ 28 * lanes s
-  pub lane : (l : ℕ) → l < lanes s
-      → (word : ℕ) × (word < 2 ^ 32)
-      × (take 28 (drop (28 * l) row) ≡ stateBytes (startState c word))
-      × (take (4 * length (tableOf s l)) (drop (4 * word) ws) ≡ flatMap (bytesOf 4) (tableOf s l))
+  pub narrow : (l : ℕ) → l < lanes s → first l < 2 ^ 32
+  pub started : (l : ℕ) → l < lanes s → take 28 (drop (28 * l) row) ≡ stateBytes (startState c (first l))
+  pub built : (l : ℕ) → l < lanes s → take (4 * length (tableOf s l)) (drop (4 * first l) ws) ≡ flatMap (bytesOf 4) (tableOf s l)
+
+-- the starts of the lanes below n
+unfoldable pub startsAt : (ℕ → ℕ) → ℕ → ℕ → List LaneState
+startsAt first c zero = []
+startsAt first c (suc n) = startsAt first c n ++ startState c (first n) ∷ []
 
 -- the bytes of a row of states
 abbrev pub rowBytes : List LaneState → List ℕ
@@ -42,19 +49,78 @@ module _ (ws : List ℕ) where
   afterBytes row [] = row
   afterBytes row (c ∷ cs) = afterBytes (leavesBytes row c) cs
 
--- Calls through C are a run: there are states that the row's bytes stand for, of which demand 3 holds, and after every part of the
--- list the row's bytes stand for the states that the run has then, and the next call gives the number that the run's call gives.
-pub record BytesRun (s ws row : List ℕ) (c : ℕ) (ahead : ℕ → ℕ) (calls : List Call) : Type 0 where
-  pub states : List LaneState
-  pub holds : RunHolds s (wordsOf ws) states c ahead calls
-  pub first-row : row ≡ rowBytes states
-  pub last-row : afterBytes ws row calls ≡ rowBytes (after (wordsOf ws) states calls)
+-- Calls through C are a run of the lanes' starts: demand 3 holds of it; after every part of the list the row's bytes are those of the
+-- states that the run has then; and each call gives what demand 3 says.
+pub record BytesRun (s ws row : List ℕ) (c : ℕ) (first ahead : ℕ → ℕ) (calls : List Call) : Type 0 where
+  pub holds : RunHolds s (wordsOf ws) (startsAt first c (lanes s)) c ahead calls
+  pub rows : (earlier later : List Call) → calls ≡ earlier ++ later
+      → afterBytes ws row earlier ≡ rowBytes (after (wordsOf ws) (startsAt first c (lanes s)) earlier)
   pub number : (earlier : List Call) (call : Call) (later : List Call) → calls ≡ earlier ++ call ∷ later
-      → givesBytes ws (afterBytes ws row earlier) call ≡ gives (wordsOf ws) (after (wordsOf ws) states earlier) call
+      → givesBytes ws (afterBytes ws row earlier) call ≡ cond (atEnd s (wordsOf ws) (startsAt first c (lanes s)) c earlier call) 28 0
+  pub number-all : (i : ℕ) (later : List Call) → calls ≡ replicate i allLanes ++ allLanes ∷ later
+      → givesBytes ws (afterBytes ws row (replicate i allLanes)) allLanes ≡ cond (ltb (c * cycleTicks s + i) (2 ^ 64 * cycleTicks s - 1)) 0 28
+
+abbrev pub EveryRun : (s ws row : List ℕ) (c : ℕ) (first : ℕ → ℕ) → Type 0
+EveryRun s ws row c first =
+    (ahead : ℕ → ℕ) → ((n : ℕ) → ahead n ≤ precision s) → (calls : List Call) → Named s calls → BytesRun s ws row c first ahead calls
 
 -- proved in proofs/Loads.antt
 abbrev pub Demand3ThroughC : Type 0
-Demand3ThroughC =
-    (s ws row : List ℕ) (c : ℕ) → Loaded s ws row c
-    → (ahead : ℕ → ℕ) → ((n : ℕ) → ahead n ≤ precision s)
-    → (calls : List Call) → Named s calls → BytesRun s ws row c ahead calls
+Demand3ThroughC = (s ws row : List ℕ) (c : ℕ) (first : ℕ → ℕ) → Loaded s ws row c first → EveryRun s ws row c first
+
+-- ---- from the calls that load; all that follows is proved in proofs/Calls.antt
+
+-- the first words that the header tells a caller to take: 0, and after a table that begins at word f and has n entries, f + 2 + 3 n
+unfoldable pub firstIn : List ℕ → ℕ → ℕ
+firstIn ws zero = 0
+firstIn ws (suc l) = firstIn ws l + 2 + 3 * getD (wordsOf ws) (firstIn ws l + 1) 0
+
+-- each record is what an rd_start that gave 0 left, all in cycle c
+abbrev pub AllStarted : (s row : List ℕ) (c : ℕ) (first : ℕ → ℕ) → Type 0
+AllStarted s row c first =
+    (length row ≡ 28 * lanes s)
+    × ((l : ℕ) → l < lanes s → (was : List ℕ) × (startNumber was ≡ 0) × (take 28 (drop (28 * l) row) ≡ startBytes c (first l) was))
+
+-- the row after calls of rd_start for record 0, 1 and so on below n
+unfoldable pub startedRow : List ℕ → (ℕ → ℕ) → ℕ → ℕ → List ℕ
+startedRow row first c zero = row
+startedRow row first c (suc n) =
+    let r = startedRow row first c n in
+    take (28 * n) r ++ startBytes c (first n) (take 28 (drop (28 * n) r)) ++ drop (28 * n + 28) r
+
+-- after an rd_build_all that gave 0
+abbrev pub AllBuiltLoads : Type 0
+AllBuiltLoads =
+    (s b row : List ℕ) (c : ℕ) → AreBytes b → allNumber s b ≡ 0 → c < 2 ^ 64 → AllStarted s row c (firstIn (allBytes s b))
+    → Loaded s (allBytes s b) row c (firstIn (allBytes s b))
+
+abbrev pub Demand3AfterBuildAll : Type 0
+Demand3AfterBuildAll =
+    (s b row : List ℕ) (c : ℕ) → AreBytes b → allNumber s b ≡ 0 → c < 2 ^ 64 → AllStarted s row c (firstIn (allBytes s b))
+    → EveryRun s (allBytes s b) row c (firstIn (allBytes s b))
+
+-- lane l's table is what an rd_build that gave 0 left, at word `first l`
+abbrev pub EachBuilt : (s ws : List ℕ) (first : ℕ → ℕ) → Type 0
+EachBuilt s ws first =
+    (l : ℕ) → l < lanes s → (first l < 2 ^ 32) × ((b : List ℕ) × (buildNumber s l b ≡ 0)
+    × (take (4 * length (tableOf s l)) (drop (4 * first l) ws) ≡ take (4 * length (tableOf s l)) (buildBytes s l b)))
+
+abbrev pub Demand3AfterBuilds : Type 0
+Demand3AfterBuilds =
+    (s ws row : List ℕ) (c : ℕ) (first : ℕ → ℕ) → AreBytes ws → checkNumber s ≡ 0 → EachBuilt s ws first → c < 2 ^ 64 → AllStarted s row c first
+    → EveryRun s ws row c first
+
+-- the premises can be met: for every accepted plan and any bytes that suffice rd_build_all gives 0, and calls of rd_start over any
+-- row of 28 bytes for each lane leave started records
+abbrev pub CanBuildAll : Type 0
+CanBuildAll = (s b : List ℕ) → checkNumber s ≡ 0 → 4 * length (allTables s) ≤ length b → allNumber s b ≡ 0
+
+abbrev pub CanStart : Type 0
+CanStart = (s row : List ℕ) (c : ℕ) (first : ℕ → ℕ) → length row ≡ 28 * lanes s → AllStarted s (startedRow row first c (lanes s)) c first
+
+-- So, with no premise about words or records but that rd_build_all gave 0: its words, and rd_start of each lane over any row of 28 bytes
+-- for each, at the first words that the header names.
+abbrev pub Demand3FromC : Type 0
+Demand3FromC =
+    (s b row : List ℕ) (c : ℕ) → AreBytes b → allNumber s b ≡ 0 → length row ≡ 28 * lanes s → c < 2 ^ 64
+    → let first = firstIn (allBytes s b) in EveryRun s (allBytes s b) (startedRow row first c (lanes s)) c first

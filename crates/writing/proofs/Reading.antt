@@ -52,7 +52,7 @@ built-bytes s lane b = go (buildAnswer s lane (wordsOf b) .number) refl
 -- ---- the tables of all lanes
 
 -- the tables below n begin with those below lane, then lane's
-below-split : (s : List ℕ) (lane n : ℕ) → lane < n → (m : List ℕ) × (tablesBelow s n ≡ tablesBelow s lane ++ (tableOf s lane ++ m))
+pub below-split : (s : List ℕ) (lane n : ℕ) → lane < n → (m : List ℕ) × (tablesBelow s n ≡ tablesBelow s lane ++ (tableOf s lane ++ m))
 unfolding tablesBelow
 below-split s lane zero l = absurd (not-suc-le-zero l)
 below-split s lane (suc n) l = go (eq-or-lt-of-le (le-of-suc-le-suc l)) (below-split s lane n)
@@ -68,7 +68,7 @@ below-split s lane (suc n) l = go (eq-or-lt-of-le (le-of-suc-le-suc l)) (below-s
         )
 
 -- only an accepted plan is built
-all-accepted : (s b : List ℕ) → allAnswer s b .number ≡ 0 → answerOf s ≡ accepted
+pub all-accepted : (s b : List ℕ) → allAnswer s b .number ≡ 0 → answerOf s ≡ accepted
 all-accepted s b e = go (answerOf s .number) refl
   where
     go : (n : ℕ) → answerOf s .number ≡ n → answerOf s ≡ accepted
