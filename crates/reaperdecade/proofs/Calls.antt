@@ -12,18 +12,21 @@ use borrow.Author.Tests.{eq-eqb, eqb-true}
 use Rattle.plan.specs.declared.Answer.{Answer}
 use Rattle.plan.specs.declared.LaneState.{LaneState}
 use Rattle.plan.specs.Questions.{answerOf, accepted}
-use Rattle.plan.specs.Dispatch.{lanes, tableOf, entryCount, buildAnswer, startState}
+use Rattle.plan.specs.Dispatch.{lanes, tableOf, tablesBelow, firstWord, entryCount, buildAnswer, startState, startsAt}
 use Rattle.plan.specs.Boundary.{bytesOf, wordsOf, stateBytes, answerNumber, checkNumber, buildNumber, buildBytes, startNumber, startBytes}
-use Rattle.writing.specs.AllTables.{tablesBelow, allTables, firstWord, allAnswer, allNumber, allBytes}
+use Rattle.plan.proofs.Starts.{below-first, below-split, below-lies, starts-many, start-at}
+use Rattle.writing.specs.AllTables.{allTables, allAnswer, allNumber, allBytes}
 use Rattle.writing.proofs.Bytes.{row-length, row-append}
-use Rattle.writing.proofs.Tables.{table-length}
-use Rattle.writing.proofs.AllTables.{below-first, below-small, lanes-small, all-done}
-use Rattle.writing.proofs.Reading.{below-split, all-accepted, all-lie}
-use Rattle.reaperdecade.specs.Loaded.{AreBytes, Loaded, startsAt, rowBytes, firstIn, startedRow, AllStarted, EachBuilt, AllBuiltLoads, Demand3AfterBuildAll, Demand3AfterBuilds, CanBuildAll, CanStart, Demand3FromC}
+use Rattle.writing.proofs.Words.{words-length, words-row}
+use Rattle.writing.proofs.Tables.{table-length, bytes-done}
+use Rattle.writing.proofs.Fitting.{below-fits}
+use Rattle.writing.proofs.AllTables.{below-small, below-inside, lanes-small, all-done}
+use Rattle.writing.proofs.Reading.{built-fits, all-accepted}
+use Rattle.reaperdecade.specs.Loaded.{AreBytes, Loaded, rowBytes, firstIn, startedRow, builtWords, AllStarted, EachBuilt, AllBuilt, AllBuiltLoads, Demand3AfterBuildAll, Demand3AfterBuilds, CanBuildAll, CanBuild, CanStart, SameWords, Demand3FromC, Demand3FromBuilds}
 use Rattle.reaperdecade.proofs.Bytes.{state-length}
 use Rattle.reaperdecade.proofs.Records.{started}
 use Rattle.reaperdecade.proofs.Runs.{record-at}
-use Rattle.reaperdecade.proofs.Loads.{zero-accepted, one-row, starts-many, start-at, demand-3-through-c}
+use Rattle.reaperdecade.proofs.Loads.{zero-accepted, one-row, demand-3-through-c}
 
 -- ---- bytes
 
@@ -101,7 +104,7 @@ can-start s row c first h =
             was,
             sym (z .0),
             ap (λ (b : List ℕ). take 28 (drop (28 * l) b)) e ∙ record-at (startsAt first c (lanes s)) l (omega (arith, m))
-                ∙ ap stateBytes (start-at first c (lanes s) l k) ∙ z .1,
+                ∙ ap stateBytes (start-at first c (lanes s) l _ k) ∙ z .1,
           ),
     )
 
@@ -117,63 +120,68 @@ can-build-all s b e h =
     let a = zero-accepted (answerOf s) e in
     rw (← all-done s b a (omega arith) .answer) refl
 
-module _ (s b : List ℕ) (e : allAnswer s b .number ≡ 0) where
-  -- lane l's table, in bytes
-  all-held : (l : ℕ) → l < lanes s → take (4 * length (tableOf s l)) (drop (4 * firstWord s l) (allBytes s b)) ≡ flatMap (bytesOf 4) (tableOf s l)
-  unfolding allBytes allTables
-  all-held l h =
-      let r : List ℕ = drop (4 * length (tablesBelow s (lanes s))) b in
-      let q = below-split s l (lanes s) h in
-      let x : List ℕ = flatMap (bytesOf 4) (tablesBelow s l) in
-      let y : List ℕ = flatMap (bytesOf 4) (tableOf s l) in
-      let z : List ℕ = flatMap (bytesOf 4) (q .0) in
-      let f : allBytes s b ≡ x ++ (y ++ (z ++ r)) =
-      rw (eq-eqb (allAnswer s b .number) 0 e)
-      (ap (λ (v : List ℕ). flatMap (bytesOf 4) v ++ r) (q .1)
-      ∙ ap (λ (v : List ℕ). v ++ r) (row-append (tablesBelow s l) (tableOf s l ++ q .0) ∙ ap (λ (v : List ℕ). x ++ v) (row-append (tableOf s l) (q .0)))
-      ∙ append-assoc x (y ++ z) r
-      ∙ ap (λ (v : List ℕ). x ++ v) (append-assoc y z r)) in
-      ap (λ (v : List ℕ). take (4 * length (tableOf s l)) (drop (4 * firstWord s l) v)) f
-      ∙ ap (take (4 * length (tableOf s l)))
-      (drop-at x (y ++ (z ++ r)) (4 * firstWord s l) (row-length (tablesBelow s l) ∙ ap (λ (k : ℕ). 4 * k) (below-first s l)))
-      ∙ take-at y (z ++ r) (4 * length (tableOf s l)) (row-length (tableOf s l))
+-- ---- tables laid in bytes one after another
 
-  all-bytes : AreBytes b → AreBytes (allBytes s b)
-  unfolding allBytes
-  all-bytes h = rw (eq-eqb (allAnswer s b .number) 0 e) (are-append (flatMap (bytesOf 4) (allTables s)) (drop (4 * length (allTables s)) b) (are-words (allTables s)) (are-rest (4 * length (allTables s)) b h))
-
+module _ (s : List ℕ) (a : answerOf s ≡ accepted) where
   second : (l : ℕ) → getD (tableOf s l) 1 0 ≡ entryCount s l
   unfolding tableOf
   second l = refl
 
   -- the header's rule leads to each lane's first word
-  pub first-found : (l : ℕ) → l ≤ lanes s → firstIn (allBytes s b) l ≡ firstWord s l
+  first-laid : (n : ℕ) (r : List ℕ) (l : ℕ) → l ≤ n → firstIn (flatMap (bytesOf 4) (tablesBelow s n) ++ r) l ≡ firstWord s l
   unfolding firstIn firstWord
-  first-found zero h = refl
-  first-found (suc l) h =
+  first-laid n r zero h = refl
+  first-laid n r (suc l) h =
+      let ws : List ℕ = tablesBelow s n ++ wordsOf r in
+      let e : wordsOf (flatMap (bytesOf 4) (tablesBelow s n) ++ r) ≡ ws = words-row (tablesBelow s n) r (below-fits s a n) in
       let t = table-length s l in
-      let ws : List ℕ = wordsOf (allBytes s b) in
-      let n : getD ws (firstWord s l + 1) 0 ≡ entryCount s l =
+      let m : getD ws (firstWord s l + 1) 0 ≡ entryCount s l =
       sym (getD-drop (firstWord s l) ws 1 0) ∙ sym (getD-take (length (tableOf s l)) (drop (firstWord s l) ws) 1 0 (omega arith))
-      ∙ ap (λ (v : List ℕ). getD v 1 0) (all-lie s b l e h) ∙ second l in
-      rw (first-found l (omega arith), n) (omega arith)
+      ∙ ap (λ (v : List ℕ). getD v 1 0) (below-lies s l n (wordsOf r) h) ∙ second l in
+      rw (first-laid n r l (omega arith), e, m) (omega arith)
 
   first-small : (l : ℕ) → l < lanes s → firstWord s l < 2 ^ 32
-  first-small l h = let a = all-accepted s b e in omega (arith, below-first s l, below-small s a l, lanes-small s a)
+  first-small l h = omega (arith, below-first s l, below-small s a l, lanes-small s a)
+
+-- lane l's table, in bytes
+held-laid : (s : List ℕ) (n : ℕ) (r : List ℕ) (l : ℕ) → l < n
+    → take (4 * length (tableOf s l)) (drop (4 * firstWord s l) (flatMap (bytesOf 4) (tablesBelow s n) ++ r)) ≡ flatMap (bytesOf 4) (tableOf s l)
+held-laid s n r l h =
+    let q = below-split s l n h in
+    let x : List ℕ = flatMap (bytesOf 4) (tablesBelow s l) in
+    let y : List ℕ = flatMap (bytesOf 4) (tableOf s l) in
+    let z : List ℕ = flatMap (bytesOf 4) (q .0) in
+    let f : flatMap (bytesOf 4) (tablesBelow s n) ++ r ≡ x ++ (y ++ (z ++ r)) =
+    ap (λ (v : List ℕ). flatMap (bytesOf 4) v ++ r) (q .1)
+    ∙ ap (λ (v : List ℕ). v ++ r) (row-append (tablesBelow s l) (tableOf s l ++ q .0) ∙ ap (λ (v : List ℕ). x ++ v) (row-append (tableOf s l) (q .0)))
+    ∙ append-assoc x (y ++ z) r
+    ∙ ap (λ (v : List ℕ). x ++ v) (append-assoc y z r) in
+    ap (λ (v : List ℕ). take (4 * length (tableOf s l)) (drop (4 * firstWord s l) v)) f
+    ∙ ap (take (4 * length (tableOf s l)))
+    (drop-at x (y ++ (z ++ r)) (4 * firstWord s l) (row-length (tablesBelow s l) ∙ ap (λ (k : ℕ). 4 * k) (below-first s l)))
+    ∙ take-at y (z ++ r) (4 * length (tableOf s l)) (row-length (tableOf s l))
+
+-- the bytes that rd_build_all leaves
+all-laid : (s b : List ℕ) → allAnswer s b .number ≡ 0 → allBytes s b ≡ flatMap (bytesOf 4) (tablesBelow s (lanes s)) ++ drop (4 * length (tablesBelow s (lanes s))) b
+unfolding allBytes allTables
+all-laid s b e = rw (eq-eqb (allAnswer s b .number) 0 e) refl
 
 pub all-built-loads : AllBuiltLoads
 unfolding allNumber
 all-built-loads s b row c h e hc st =
-    let z : allAnswer s b .number ≡ 0 = ap (λ (a : Answer). a .number) (zero-accepted (allAnswer s b) e) in
-    let f : (l : ℕ) → l < lanes s → firstIn (allBytes s b) l ≡ firstWord s l = λ l k. first-found s b z l (omega arith) in
+    let z : allAnswer s b .number ≡ 0 = ap (λ (x : Answer). x .number) (zero-accepted (allAnswer s b) e) in
+    let a = all-accepted s b z in
+    let n = lanes s in
+    let r : List ℕ = drop (4 * length (tablesBelow s n)) b in
+    let f : (l : ℕ) → l < n → firstIn (allBytes s b) l ≡ firstWord s l = λ l k. rw (all-laid s b z) (first-laid s a n r l (omega arith)) in
     record {
-      plan = is-accepted s (all-accepted s b z);
+      plan = is-accepted s a;
       in-calendar = hc;
-      bytes = all-bytes s b z h;
+      bytes = rw (all-laid s b z) (are-append (flatMap (bytesOf 4) (tablesBelow s n)) r (are-words (tablesBelow s n)) (are-rest (4 * length (tablesBelow s n)) b h));
       records = st .0;
-      narrow = λ l k. rw (f l k) (first-small s b z l k);
+      narrow = λ l k. rw (f l k) (first-small s a l k);
       started = all-started s row c (firstIn (allBytes s b)) st;
-      built = λ l k. rw (f l k) (all-held s b z l k);
+      built = λ l k. rw (f l k, all-laid s b z) (held-laid s n r l k);
     }
 
 pub demand-3-after-build-all : Demand3AfterBuildAll
@@ -205,9 +213,100 @@ builds-load s ws row c first h e built hc st =
 pub demand-3-after-builds : Demand3AfterBuilds
 demand-3-after-builds s ws row c first h e built hc st = demand-3-through-c s ws row c first (builds-load s ws row c first h e built hc st)
 
+-- ---- rd_build in turn, in place
+
+-- the words suffice exactly where an rd_build of a lane gives 0
+build-takes : (s : List ℕ) (l : ℕ) (r : List ℕ) → answerOf s ≡ accepted → l < lanes s → 4 * length (tableOf s l) ≤ length r → buildNumber s l r ≡ 0
+unfolding buildNumber answerNumber
+build-takes s l r a h k = let t = table-length s l in rw (← bytes-done s l r a h (omega arith) .answer) refl
+
+takes-build : (s : List ℕ) (l : ℕ) (r : List ℕ) → buildNumber s l r ≡ 0 → 4 * length (tableOf s l) ≤ length r
+unfolding buildNumber
+takes-build s l r e =
+    let z : buildAnswer s l (wordsOf r) .number ≡ 0 = ap (λ (x : Answer). x .number) (zero-accepted (buildAnswer s l (wordsOf r)) e) in
+    omega (arith, built-fits s l (wordsOf r) z, words-length r)
+
+build-leaves : (s : List ℕ) (l : ℕ) (r : List ℕ) → buildNumber s l r ≡ 0 → buildBytes s l r ≡ flatMap (bytesOf 4) (tableOf s l) ++ drop (4 * length (tableOf s l)) r
+unfolding buildNumber buildBytes
+build-leaves s l r e =
+    let z : buildAnswer s l (wordsOf r) .number ≡ 0 = ap (λ (x : Answer). x .number) (zero-accepted (buildAnswer s l (wordsOf r)) e) in
+    rw (eq-eqb (buildAnswer s l (wordsOf r) .number) 0 z) refl
+
+module _ (s b : List ℕ) (a : answerOf s ≡ accepted) where
+  abbrev before : ℕ → List ℕ
+  before n = flatMap (bytesOf 4) (tablesBelow s n)
+
+  abbrev behind : ℕ → List ℕ
+  behind n = drop (4 * length (tablesBelow s n)) b
+
+  -- the tables below n stand before the bytes that follow, and the next call is lent these
+  abbrev Laid : ℕ → Type 0
+  Laid n = builtWords s b n ≡ before n ++ behind n
+
+  module _ (n : ℕ) (e : Laid n) where
+    place : 4 * firstIn (builtWords s b n) n ≡ length (before n)
+    place = rw e (omega (arith, first-laid s a n (behind n) n (omega arith), below-first s n, row-length (tablesBelow s n)))
+
+    pub lent : drop (4 * firstIn (builtWords s b n) n) (builtWords s b n) ≡ behind n
+    lent = rw (place, e) (drop-at (before n) (behind n) _ refl)
+
+    above : take (4 * firstIn (builtWords s b n) n) (builtWords s b n) ≡ before n
+    above = rw (place, e) (take-at (before n) (behind n) _ refl)
+
+    pub next-laid : buildNumber s n (behind n) ≡ 0 → Laid (suc n)
+    unfolding builtWords tablesBelow
+    next-laid z =
+        let t : List ℕ = tableOf s n in
+        let m : 4 * length (tablesBelow s n) + 4 * length t ≡ 4 * length (tablesBelow s n ++ t) = omega (arith, length-append (tablesBelow s n) t) in
+        (rw (above, lent, build-leaves s n (behind n) z) refl)
+        ∙ ap (λ (r : List ℕ). before n ++ (flatMap (bytesOf 4) t ++ r)) (drop-drop (4 * length t) (4 * length (tablesBelow s n)) b ∙ ap (λ (k : ℕ). drop k b) m)
+        ∙ sym (append-assoc (before n) (flatMap (bytesOf 4) t) _)
+        ∙ ap (λ (x : List ℕ). x ++ drop (4 * length (tablesBelow s n ++ t)) b) (sym (row-append (tablesBelow s n) t))
+
+  pub laid-none : Laid 0
+  unfolding builtWords tablesBelow flatMap
+  laid-none = refl
+
+  -- where the bytes suffice, each call gives 0 and all tables are laid
+  pub enough-takes : 4 * length (allTables s) ≤ length b → (n : ℕ) → n < lanes s → buildNumber s n (behind n) ≡ 0
+  enough-takes h n k = build-takes s n (behind n) a k (rw (length-drop) (omega (arith, below-inside s n k, table-length s n)))
+
+  pub enough-laid : 4 * length (allTables s) ≤ length b → (n : ℕ) → n ≤ lanes s → Laid n
+  enough-laid h zero k = laid-none
+  enough-laid h (suc n) k = next-laid n (enough-laid h n (omega arith)) (enough-takes h n k)
+
+  -- and they suffice where each call gives 0
+  pub taken-laid : AllBuilt s b → (n : ℕ) → n ≤ lanes s → Laid n × (4 * length (tablesBelow s n) ≤ length b)
+  unfolding tablesBelow
+  taken-laid h zero k = (laid-none, omega arith)
+  taken-laid h (suc n) k =
+      let p = taken-laid h n (omega arith) in
+      let z : buildNumber s n (behind n) ≡ 0 = rw (lent n (p .0)) at (h n k) in
+      let q = takes-build s n (behind n) z in
+      (next-laid n (p .0) z, omega (arith, p .1, q, length-drop (4 * length (tablesBelow s n)) b, length-append (tablesBelow s n) (tableOf s n)))
+
+pub can-build : CanBuild
+unfolding checkNumber
+can-build s b e h l k =
+    let a = zero-accepted (answerOf s) e in
+    rw (lent s b a l (enough-laid s b a h l (omega arith))) (enough-takes s b a h l k)
+
+pub same-words : SameWords
+unfolding checkNumber allNumber allTables
+same-words s b e h =
+    let a = zero-accepted (answerOf s) e in
+    let p = taken-laid s b a h (lanes s) (omega arith) in
+    let z = can-build-all s b (is-accepted s a) (unfold allTables in p .1) in
+    (z, p .0 ∙ sym (all-laid s b (ap (λ (x : Answer). x .number) (zero-accepted (allAnswer s b) z))))
+
 -- ---- in one
 
 pub demand-3-from-c : Demand3FromC
 demand-3-from-c s b row c h e n hc =
     let first : ℕ → ℕ = firstIn (allBytes s b) in
     demand-3-after-build-all s b (startedRow row first c (lanes s)) c h e hc (can-start s row c first n)
+
+pub demand-3-from-builds : Demand3FromBuilds
+demand-3-from-builds s b row c h e built n hc =
+    let w = same-words s b e built in
+    rw (w .1) (demand-3-from-c s b row c h (w .0) n hc)

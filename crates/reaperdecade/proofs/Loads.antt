@@ -1,26 +1,25 @@
 -- A load tool's calls are a run: loaded bytes meet the premises of demand 3, so what it says of runs holds of them.
 use Prim.Native.Nat.{ℕ, zero, suc, _+_, _-_, _*_, _^_, _≤_, _<_, min}
 use mathlib.Core.Path.{_≡_, refl, sym, ap, subst, _∙_}
-use mathlib.Core.Logic.{_⊎_, inl, inr}
-use mathlib.Core.List.{List, _∷_, _++_, [], flatMap, append-nil}
-use native.Mathlib.Nat.{not-suc-le-zero, eq-or-lt-of-le, le-of-suc-le-suc}
+use mathlib.Core.List.{List, _∷_, _++_, [], flatMap, append-nil, append-assoc}
 use native.Mathlib.Omega.{arith}
-use lib.ListN.{length, getD, take, drop, replicate, length-append, length-take, length-drop, take-append-drop, List·getD-append}
-use lib.Seq.{take-all, take-add, getD-at, take-append-seam}
+use lib.ListN.{length, take, drop, replicate, length-take, length-drop, take-append-drop}
+use lib.Seq.{take-all, take-add, take-append-seam}
 use Rattle.plan.specs.Questions.{answerOf, accepted}
-use Rattle.plan.specs.Dispatch.{lanes, tableOf, startState}
+use Rattle.plan.specs.Dispatch.{lanes, tableOf, startState, startsAt}
 use Rattle.plan.specs.Boundary.{bytesOf, wordsOf, stateBytes, answerNumber, checkNumber}
-use Rattle.plan.specs.Runs.{Call, allLanes, oneLane, gives, after, Named, Ready}
+use Rattle.plan.specs.Runs.{Call, allLanes, oneLane, gives, after, recordShows, Named, Ready}
 use Rattle.plan.specs.declared.Answer.{Answer}
 use Rattle.plan.specs.declared.LaneState.{LaneState}
 use Rattle.plan.proofs.Demand.{demand-3}
+use Rattle.plan.proofs.Starts.{starts-many, start-at}
 use Rattle.writing.proofs.Bytes.{row-length}
 use Rattle.writing.proofs.Words.{Fit, words-row, words-drop}
 use Rattle.writing.proofs.Tables.{table-length}
 use Rattle.writing.proofs.Fitting.{table-fits}
-use Rattle.reaperdecade.specs.Loaded.{Loaded, startsAt, rowBytes, givesBytes, afterBytes, Demand3ThroughC}
+use Rattle.reaperdecade.specs.Loaded.{Loaded, shownBytes, rowBytes, givesBytes, afterBytes, Demand3ThroughC}
 use Rattle.reaperdecade.proofs.States.{InWidth, AllInWidth}
-use Rattle.reaperdecade.proofs.Runs.{AllAmong, append-row, calls-of-bytes}
+use Rattle.reaperdecade.proofs.Runs.{AllAmong, append-row, shown-at, calls-long, calls-of-bytes}
 
 -- ---- words that bytes stand for
 
@@ -51,21 +50,6 @@ unfolding flatMap
 one-row sts st = append-row sts (st ∷ []) ∙ ap (λ (b : List ℕ). rowBytes sts ++ b) (append-nil (stateBytes st))
 
 module _ (first : ℕ → ℕ) (c : ℕ) where
-  pub starts-many : (n : ℕ) → length (startsAt first c n) ≡ n
-  unfolding startsAt
-  starts-many zero = refl
-  starts-many (suc n) = length-append (startsAt first c n) (startState c (first n) ∷ []) ∙ omega (arith, starts-many n)
-
-  pub start-at : (n l : ℕ) → l < n → getD (startsAt first c n) l none ≡ startState c (first l)
-  unfolding startsAt
-  start-at zero l h = absurd (not-suc-le-zero h)
-  start-at (suc n) l h = go (eq-or-lt-of-le (le-of-suc-le-suc h)) (start-at n l)
-    where
-      go : (l ≡ n) ⊎ (l < n) → (l < n → getD (startsAt first c n) l none ≡ startState c (first l))
-          → getD (startsAt first c n ++ startState c (first n) ∷ []) l none ≡ startState c (first l)
-      go (inl e) k = getD-at (startsAt first c n) _ [] none l (starts-many n ∙ sym e) ∙ ap (λ (x : ℕ). startState c (first x)) (sym e)
-      go (inr q) k = List·getD-append (startsAt first c n) _ none l (omega (arith, starts-many n)) ∙ k q
-
   starts-width : c < 2 ^ 64 → (n : ℕ) → ((l : ℕ) → l < n → first l < 2 ^ 32) → AllInWidth (startsAt first c n)
   unfolding startsAt
   starts-width hc zero h = tt
@@ -123,7 +107,7 @@ module _ (s ws row : List ℕ) (c : ℕ) (first : ℕ → ℕ) (g : Loaded s ws 
         records = starts-many first c (lanes s);
         starts = λ l h. (
           first l,
-          start-at first c (lanes s) l h,
+          start-at first c (lanes s) l none h,
           words-held ws (tableOf s l) (first l) (g .built l h) (omega (arith, table-length s l)) (table-fits s plan l),
         );
       }
@@ -150,6 +134,15 @@ module _ (s ws row : List ℕ) (c : ℕ) (first : ℕ → ℕ) (g : Loaded s ws 
         ap (λ (b : List ℕ). givesBytes ws (afterBytes ws b earlier) call) is-row
         ∙ calls-of-bytes ws (g .bytes) earlier states call width (among-left _ earlier (call ∷ later) k) (among-right _ earlier (call ∷ later) k .0) .1
 
+    pub shown-are : (earlier : List Call) (call : Call) (later : List Call) → calls ≡ earlier ++ call ∷ later → (l : ℕ) → l < lanes s
+        → take 8 (drop (28 * l + 20) (afterBytes ws row (earlier ++ call ∷ []))) ≡ shownBytes (recordShows (wordsOf ws) (after (wordsOf ws) states (earlier ++ call ∷ [])) l)
+    unfolding recordShows
+    shown-are earlier call later q l k =
+        let to : List Call = earlier ++ call ∷ [] in
+        let n = calls-long ws (g .bytes) to states in
+        ap (λ (b : List ℕ). take 8 (drop (28 * l + 20) b)) (rows-are to later (q ∙ sym (append-assoc earlier (call ∷ []) later)))
+        ∙ shown-at (after (wordsOf ws) states to) l (omega (arith, starts-many first c (lanes s)))
+
 -- rd_build, rd_start, rd_step and rd_step_all, as the load tool calls them, are a run of which demand 3 holds
 pub demand-3-through-c : Demand3ThroughC
 demand-3-through-c s ws row c first g ahead near calls h =
@@ -159,4 +152,7 @@ demand-3-through-c s ws row c first g ahead near calls h =
       rows = rows-are s ws row c first g calls h;
       number = λ earlier call later q. numbers-are s ws row c first g calls h earlier call later q ∙ r .number earlier call later q;
       number-all = λ i later q. numbers-are s ws row c first g calls h (replicate i allLanes) allLanes later q ∙ r .number-all i later q;
+      shown = λ earlier call later q z l k p.
+          shown-are s ws row c first g calls h earlier call later q l k
+          ∙ ap shownBytes (r .left earlier call later q (sym (numbers-are s ws row c first g calls h earlier call later q) ∙ z) l k p);
     }

@@ -12,12 +12,12 @@ use borrow.Author.Tests.{eq-eqb}
 use lib.ListN.{length, getD, take, drop, set, List·getD-eq-default, length-map, length-set}
 use lib.Seq.{take-at, drop-at, drop-drop, drop-cons, drop-nil, take-nil, drop-append-add, take-append-add, set-split}
 use Rattle.plan.specs.Image.{wordAt}
-use Rattle.plan.specs.Dispatch.{tableTicks, tableEntries, entryWord, fits, lastTick, calendarEnds, nextEntry, moved, step, startState, refusal, stepAll}
-use Rattle.plan.specs.Boundary.{wordsOf, stateBytes, stepNumber}
-use Rattle.plan.specs.Runs.{Call, allLanes, oneLane, gives, leaves, after}
+use Rattle.plan.specs.Dispatch.{show, tableTicks, tableEntries, entryWord, fits, lastTick, calendarEnds, nextEntry, moved, step, startState, refusal, stepAll}
+use Rattle.plan.specs.Boundary.{wordsOf, bytesOf, stateBytes, stepNumber}
+use Rattle.plan.specs.Runs.{Call, allLanes, oneLane, gives, leaves, after, recordShows}
 use Rattle.plan.specs.declared.LaneState.{LaneState}
 use Rattle.plan.specs.declared.Stepped.{Stepped}
-use Rattle.reaperdecade.specs.Loaded.{AreBytes, rowBytes, givesBytes, leavesBytes, afterBytes}
+use Rattle.reaperdecade.specs.Loaded.{AreBytes, shownBytes, rowBytes, givesBytes, leavesBytes, afterBytes}
 use Rattle.steps.specs.Lookups.{lookup, fitsTable}
 use Rattle.steps.proofs.Deciding.{fitting}
 use Rattle.writing.proofs.Words.{words-length, words-at}
@@ -150,6 +150,11 @@ module _ (sts : List LaneState) (l : ℕ) (h : l < length sts) where
   pub record-at : take 28 (drop (28 * l) (rowBytes sts)) ≡ stateBytes (getD sts l none)
   record-at = ap (take 28) here ∙ take-at (stateBytes (getD sts l none)) (rowBytes (drop (suc l) sts)) 28 (state-length (getD sts l none))
 
+  -- its last eight bytes
+  pub shown-at : take 8 (drop (28 * l + 20) (rowBytes sts)) ≡ shownBytes (recordShows [] sts l)
+  unfolding stateBytes bytesOf recordShows show
+  shown-at = ap (take 8) (sym (drop-drop 20 (28 * l) (rowBytes sts)) ∙ ap (drop 20) here)
+
   rest-after : drop (28 * l + 28) (rowBytes sts) ≡ rowBytes (drop (suc l) sts)
   rest-after =
       sym (drop-drop 28 (28 * l) (rowBytes sts))
@@ -206,6 +211,11 @@ module _ (ws : List ℕ) (b : AreBytes ws) where
       go true = length-map sts (λ st. step (wordsOf ws) st .state)
       go false = refl
   call-long sts (oneLane l) = length-set sts l (step (wordsOf ws) (getD sts l none) .state)
+
+  pub calls-long : (cs : List Call) (sts : List LaneState) → length (after (wordsOf ws) sts cs) ≡ length sts
+  unfolding after
+  calls-long [] sts = refl
+  calls-long (c ∷ cs) sts = calls-long cs (leaves (wordsOf ws) sts c) ∙ call-long sts c
 
   -- after any list of calls through C, the row has the bytes of the states that the same calls leave, and the next call gives the same
   pub calls-of-bytes :

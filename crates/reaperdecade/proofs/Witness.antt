@@ -1,17 +1,19 @@
 -- Demand 3 from the C calls is not empty: case B built, started and stepped through C, and the calendar's end.
-use Prim.Native.Nat.{ℕ, zero, suc, _+_, _-_, _*_, _^_, _≤_, _<_}
-use mathlib.Core.Path.{_≡_, refl}
+use Prim.Native.Nat.{ℕ, zero, suc, _+_, _-_, _*_, _%_, _^_, _≤_, _<_}
+use mathlib.Core.Path.{_≡_, refl, ap, _∙_}
+use mathlib.Core.Bool.{cond}
 use mathlib.Core.List.{List, _∷_, _++_, []}
 use native.Mathlib.Omega.{arith}
-use lib.ListN.{length, replicate}
-use Rattle.plan.specs.Image.{precision}
-use Rattle.plan.specs.Dispatch.{lanes, dispatch}
-use Rattle.plan.specs.Boundary.{wordsOf, answerNumber, checkNumber}
-use Rattle.plan.specs.Runs.{Call, allLanes, oneLane, after, Kept, seen}
+use lib.ListN.{length, take, drop, replicate}
+use lib.Dec.{ltb}
+use Rattle.plan.specs.Image.{cycleTicks, precision}
+use Rattle.plan.specs.Dispatch.{lanes, shownAt, startsAt, dispatch}
+use Rattle.plan.specs.Boundary.{wordsOf, bytesOf, answerNumber, checkNumber}
+use Rattle.plan.specs.Runs.{Call, allLanes, oneLane, steps, after, Kept, seen, movedBy}
 use Rattle.plan.specs.Cases.{bytes, caseB}
-use Rattle.writing.specs.AllTables.{tablesBelow, allTables, allBytes}
-use Rattle.reaperdecade.specs.Loaded.{AreBytes, startsAt, rowBytes, givesBytes, afterBytes, firstIn, startedRow, EveryRun}
-use Rattle.reaperdecade.proofs.Calls.{can-build-all, demand-3-from-c}
+use Rattle.writing.specs.AllTables.{allTables, allBytes}
+use Rattle.reaperdecade.specs.Loaded.{AreBytes, shownBytes, rowBytes, givesBytes, afterBytes, firstIn, startedRow, builtWords, EveryRun}
+use Rattle.reaperdecade.proofs.Calls.{can-build-all, can-build, demand-3-from-c, demand-3-from-builds}
 
 -- any bytes
 abbrev words : List ℕ
@@ -30,7 +32,7 @@ unfolding dispatch bytes caseB checkNumber answerNumber
 takes = refl
 
 enough : 4 * length (allTables (bytes caseB)) ≤ 400
-unfolding dispatch bytes caseB allTables tablesBelow
+unfolding dispatch bytes caseB allTables
 enough = omega arith
 
 abbrev first : ℕ → ℕ
@@ -79,6 +81,36 @@ part = runs 5 (omega arith) ahead near (replicate 40 allLanes ++ oneLane 1 ∷ a
 next : givesBytes ws (afterBytes ws (row 5) (replicate 40 allLanes)) allLanes ≡ 0
 unfolding dispatch bytes caseB
 next = runs 5 (omega arith) ahead near (replicate 41 allLanes) tt .number-all 40 [] refl
+
+in-calendar : _≡_ {A = ℕ} (cond (ltb (5 * cycleTicks (bytes caseB) + 2) (2 ^ 64 * cycleTicks (bytes caseB) - 1)) 0 28) 0
+unfolding dispatch bytes caseB
+in-calendar = refl
+
+some-lane : 0 < lanes (bytes caseB)
+unfolding dispatch bytes caseB
+some-lane = omega arith
+
+-- after the third call lane 0's record shows the task switch of piece 0, in its bytes 20 to 27
+two-moved : movedBy (bytes caseB) (wordsOf ws) (startsAt first 5 (lanes (bytes caseB))) 5 (replicate 2 allLanes) 0 ≡ 2
+unfolding dispatch bytes caseB
+two-moved = let e = runs 5 (omega arith) ahead near (replicate 2 allLanes) tt .holds .moved-all 2 refl 0 (omega arith) in omega (arith, e)
+
+switches : shownBytes (shownAt (bytes caseB) 0 (2 % cycleTicks (bytes caseB))) ≡ 3 ∷ 0 ∷ 0 ∷ 0 ∷ 0 ∷ 0 ∷ 0 ∷ 0 ∷ []
+unfolding dispatch bytes caseB bytesOf
+switches = refl
+
+third : take 8 (drop (28 * 0 + 20) (afterBytes ws (row 5) (replicate 3 allLanes))) ≡ 3 ∷ 0 ∷ 0 ∷ 0 ∷ 0 ∷ 0 ∷ 0 ∷ 0 ∷ []
+unfolding steps
+third =
+    let r = runs 5 (omega arith) ahead near (replicate 41 allLanes) tt in
+    r .shown (replicate 2 allLanes) allLanes (replicate 38 allLanes) refl (r .number-all 2 (replicate 38 allLanes) refl ∙ in-calendar) 0 some-lane refl
+    ∙ ap (λ (n : ℕ). shownBytes (shownAt (bytes caseB) 0 (n % cycleTicks (bytes caseB)))) two-moved
+    ∙ switches
+
+-- rd_build of each lane in turn does as well
+in-turn : EveryRun (bytes caseB) (builtWords (bytes caseB) words 3) (startedRow records (firstIn (builtWords (bytes caseB) words 3)) 5 3) 5 (firstIn (builtWords (bytes caseB) words 3))
+unfolding dispatch bytes caseB
+in-turn = demand-3-from-builds (bytes caseB) words records 5 (sevens 400) takes (can-build (bytes caseB) words takes enough) three (omega arith)
 
 -- in the calendar's last cycle the twentieth call of all lanes is refused with 28
 last : givesBytes ws (afterBytes ws (row (2 ^ 64 - 1)) (replicate 19 allLanes)) allLanes ≡ 28

@@ -12,7 +12,7 @@ use Rattle.plan.specs.declared.Answer.{Answer}
 use Rattle.plan.specs.declared.Table.the-variants.{Cores, Links}
 use Rattle.plan.specs.Image.{shape, cycleTicks}
 use Rattle.plan.specs.Questions.{questions, answerOf, answerTo, accepted, whole}
-use Rattle.plan.specs.Dispatch.{lanes, begins, entryCount, tableOf}
+use Rattle.plan.specs.Dispatch.{lanes, begins, entryCount, tableOf, tablesBelow}
 use Rattle.plan.proofs.Asking.{then-asked, stopped-first}
 use Rattle.plan.proofs.Searching.{count-most}
 use Rattle.lanes.proofs.Accepted.{cycle-small}
@@ -20,7 +20,7 @@ use Rattle.plan.proofs.Sounds.{accepted-sound}
 use Rattle.plan.proofs.Numbers.{real}
 use Rattle.lanes.proofs.Building.{asked, whole-yes, whole-no}
 use Rattle.writing.specs.Stored.{stored}
-use Rattle.writing.specs.AllTables.{tablesBelow, allTables, firstWord, allAnswer, allBytes, BuiltAll}
+use Rattle.writing.specs.AllTables.{allTables, allAnswer, allBytes, BuiltAll}
 use Rattle.writing.proofs.Storing.{stored-after, stored-front}
 use Rattle.writing.proofs.Tables.{table-length}
 
@@ -38,12 +38,6 @@ module _ (s : List ℕ) where
       go : Dec (n < m) → (m ≤ n → length (tablesBelow s m) ≤ length (tablesBelow s n)) → length (tablesBelow s m) ≤ length (tablesBelow s (suc n))
       go (yes k) ih = let e : m ≡ suc n = omega arith in rw e (omega arith)
       go (no k) ih = omega (arith, ih (omega arith), below-next n)
-
-  -- lane n's table begins after those before it
-  pub below-first : (n : ℕ) → length (tablesBelow s n) ≡ firstWord s n
-  unfolding tablesBelow firstWord
-  below-first zero = refl
-  below-first (suc n) = length-append (tablesBelow s n) (tableOf s n) ∙ ap (λ (k : ℕ). k + length (tableOf s n)) (below-first n)
 
   -- a lane's table lies inside all of them
   pub below-inside : (n : ℕ) → n < lanes s → length (tablesBelow s n) + (2 + 3 * entryCount s n) ≤ length (allTables s)

@@ -12,11 +12,10 @@ use Rattle.plan.specs.declared.Table.the-variants.{Cores, Windows, Pieces, Fram
 use Rattle.plan.specs.Image.{shape, rows, cycleTicks, piece, window}
 use Rattle.plan.specs.Search.{first}
 use Rattle.plan.specs.Questions.{answerOf, accepted, switchTicks, charge}
-use Rattle.plan.specs.Dispatch.{Shown, show, pieceAt, windowAt, frameAt, onCore, onLink, shownAt, begins, entries, tableOf}
+use Rattle.plan.specs.Dispatch.{Shown, show, pieceAt, windowAt, frameAt, onCore, onLink, shownAt, begins, entries, tableOf, tablesBelow}
 use Rattle.plan.proofs.Searching.{at-iff}
 use Rattle.lanes.proofs.Accepted.{cycle-small}
 use Rattle.plan.proofs.Sounds.{accepted-sound}
-use Rattle.writing.specs.AllTables.{tablesBelow}
 use Rattle.writing.proofs.Words.{Fit, fit-append}
 use Rattle.writing.proofs.AllTables.{count-small}
 

@@ -1,5 +1,5 @@
 -- The tables of all lanes, one after another, in lent bytes.
-use Prim.Native.Nat.{ℕ, zero, suc, _+_, _*_, _/_, _^_, _<_}
+use Prim.Native.Nat.{ℕ, _*_, _/_, _^_, _<_}
 use mathlib.Core.Path.{_≡_}
 use mathlib.Core.Bool.{cond}
 use mathlib.Core.List.{List, _∷_, _++_, [], flatMap}
@@ -7,24 +7,13 @@ use lib.ListN.{length, take, drop}
 use lib.Dec.{leb, eqb}
 use Rattle.plan.specs.declared.Answer.{Answer}
 use Rattle.plan.specs.Questions.{whole, questions, answerTo}
-use Rattle.plan.specs.declared.LaneState.{LaneState}
-use Rattle.plan.specs.Dispatch.{lanes, tableOf, startState}
+use Rattle.plan.specs.Dispatch.{lanes, tableOf, tablesBelow, firstWord, startsAt}
 use Rattle.plan.specs.Runs.{Ready}
 use Rattle.plan.specs.Boundary.{bytesOf, wordsOf, answerNumber}
 
 module _ (image : List ℕ) where
-  -- the tables of the lanes below n; of all lanes
-  unfoldable pub tablesBelow : ℕ → List ℕ
-  tablesBelow zero = []
-  tablesBelow (suc n) = tablesBelow n ++ tableOf image n
-
   unfoldable pub allTables : List ℕ
-  allTables = tablesBelow (lanes image)
-
-  -- the word at which lane n's table begins: the lengths of the tables before it
-  unfoldable pub firstWord : ℕ → ℕ
-  firstWord zero = 0
-  firstWord (suc n) = firstWord n + length (tableOf image n)
+  allTables = tablesBelow image (lanes image)
 
   -- building all of them: 1 to 24 and 29 to 32, then 26 of them together
   unfoldable pub allAnswer : List ℕ → Answer
@@ -41,11 +30,6 @@ module _ (image : List ℕ) where
     pub answer : r ≡ allAnswer b
     pub left : after ≡ allBytes b
 
--- the lanes below n started in cycle c, each at its first word
-unfoldable pub startRow : List ℕ → ℕ → ℕ → List LaneState
-startRow image c zero = []
-startRow image c (suc n) = startRow image c n ++ startState c (firstWord image n) ∷ []
-
 -- after a build of all that gives 0, the bytes read as words hold each lane's table at its first word; proved in proofs/Reading.antt
 abbrev pub AllLie : Type 0
 AllLie =
@@ -56,4 +40,4 @@ AllLie =
 abbrev pub AllReady : Type 0
 AllReady =
     (image b : List ℕ) (c : ℕ) → c < 2 ^ 64 → allAnswer image b .number ≡ 0
-    → Ready image (wordsOf (allBytes image b)) (startRow image c (lanes image)) c
+    → Ready image (wordsOf (allBytes image b)) (startsAt (firstWord image) c (lanes image)) c

@@ -2,8 +2,8 @@ use Prim.Native.Nat.{ℕ, suc, _+_, _-_, _≤_, _<_}
 use mathlib.Core.Path.{_≡_, refl, ap, _∙_}
 use native.Mathlib.Omega.{arith}
 use lib.ListN.{length}
-use Rattle.plan.specs.Dispatch.{lanes}
-use Rattle.writing.specs.AllTables.{tablesBelow, allTables}
+use Rattle.plan.specs.Dispatch.{lanes, tablesBelow}
+use Rattle.writing.specs.AllTables.{allTables}
 use Rattle.writing.proofs.AllTables.{below-next, below-small, count-small, lanes-small}
 use Rattle.writing.proofs.words_of_all.Statement.{statement}
 use Rattle.writing.proofs.words_of_all.Tie as tie

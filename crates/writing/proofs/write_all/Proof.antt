@@ -3,9 +3,9 @@ use mathlib.Core.Path.{_≡_, refl, ap, _∙_}
 use mathlib.Core.List.{List, flatMap}
 use native.Mathlib.Omega.{arith}
 use lib.ListN.{length}
-use Rattle.plan.specs.Dispatch.{lanes, tableOf}
+use Rattle.plan.specs.Dispatch.{lanes, tableOf, tablesBelow}
 use Rattle.writing.specs.Stored.{stored}
-use Rattle.writing.specs.AllTables.{tablesBelow, allTables}
+use Rattle.writing.specs.AllTables.{allTables}
 use Rattle.writing.proofs.Storing.{stored-length}
 use Rattle.writing.proofs.AllTables.{below-next, below-inside, lanes-small, stored-next}
 use Rattle.writing.proofs.write_all.Statement.{statement}
