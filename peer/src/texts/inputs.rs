@@ -41,7 +41,8 @@ const LONG: [usize; 12] = [
     1_000_000,
 ];
 
-/// Bytes that are no plan's, of each short length and each long one in turn.
+/// Bytes of each short length in turn, then of each long one: noise, and a
+/// full plan with noise behind it.
 fn raw(turn: usize, rng: &mut Rng) -> Vec<u8> {
     let turn = turn % (SHORT + 2 * LONG.len());
     let mut image = match turn.checked_sub(SHORT) {

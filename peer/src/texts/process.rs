@@ -48,15 +48,18 @@ fn hand_over(image: &[u8], mut input: ChildStdin) -> io::Result<()> {
     }
 }
 
+/// Long enough for a program to start and read.
+const PAUSE: Duration = Duration::from_millis(4);
+
 /// Some images, chosen by their length, go in three parts with pauses, so
 /// that the program reads less at once than there is.
 fn write_parts(image: &[u8], input: &mut ChildStdin) -> io::Result<()> {
-    if image.is_empty() || !image.len().is_multiple_of(32) {
+    if image.is_empty() || !image.len().is_multiple_of(64) {
         return input.write_all(image);
     }
     for part in image.chunks(image.len().div_ceil(3)) {
         input.write_all(part)?;
-        thread::sleep(Duration::from_millis(1));
+        thread::sleep(PAUSE);
     }
     Ok(())
 }
