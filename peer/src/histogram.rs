@@ -32,6 +32,11 @@ impl Histogram {
         self.0[number as usize] += 1;
     }
 
+    /// How many images had a number.
+    pub fn of(&self, number: u32) -> u64 {
+        self.0[number as usize]
+    }
+
     pub fn total(&self) -> u64 {
         self.0.iter().sum()
     }

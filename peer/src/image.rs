@@ -110,6 +110,12 @@ pub fn set_word(image: &mut [u8], byte: usize, word: u32) {
     image[byte..byte + WORD].copy_from_slice(&word.to_le_bytes());
 }
 
+/// Makes the last word of at least 92 bytes the length less 92.
+pub fn point_back(image: &mut [u8]) {
+    let length = image.len();
+    set_word(image, length - WORD, (length - TRAILER) as u32);
+}
+
 impl Trailer {
     /// Reads the trailer of an image of at least 92 bytes.
     pub fn read(image: &[u8]) -> Trailer {

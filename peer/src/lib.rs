@@ -25,9 +25,10 @@ mod rng;
 mod routes;
 pub mod simulate;
 mod table;
+pub mod texts;
 
 pub use answer::Answer;
-pub use arguments::arguments;
+pub use arguments::{arguments, numbers};
 pub use check::check;
 pub use dispatch::{start, step, step_all, State};
 pub use histogram::{asked_before, questions, Histogram};

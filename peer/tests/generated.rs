@@ -1,10 +1,10 @@
 //! The generator's plans are accepted, and its shapes are what they say.
 
 use peer::generate::{
-    accepted, bare, busy_core, cut_window, diamond, full, kept_core, large, medium, rich,
-    shared_buffer, small, tiny, unit_periods,
+    accepted, bare, busy_core, cut_window, diamond, full, kept_core, large, medium, most_entries,
+    rich, shared_buffer, small, tiny, unit_periods,
 };
-use peer::{check, Answer, Plan, Rng};
+use peer::{check, report, Answer, Plan, Rng};
 
 fn all_accepted(count: u64, shape: fn(&mut Rng) -> Plan) {
     for seed in 0..count {
@@ -31,6 +31,7 @@ fn every_shape_is_accepted() {
     all_accepted(100, large);
     all_accepted(10, busy_core);
     all_accepted(100, diamond);
+    all_accepted(10, most_entries);
     all_accepted(10, full);
 }
 
@@ -69,6 +70,16 @@ fn full_plans_have_every_row() {
         [32, 64, 256, 1024, 2048, 64, 64, 512, 64, 32]
     );
     assert_eq!(plan.encode().len(), 64_604);
+}
+
+/// Three for each window and piece, two for each frame, and one more for each
+/// lane; the answer is a line besides.
+#[test]
+fn no_plan_has_more_entries() {
+    for seed in 0..10 {
+        let text = report(&most_entries(&mut Rng::new(seed)).encode());
+        assert_eq!(text.lines().count(), 1 + 3 * (1024 + 2048) + 2 * 512 + 96);
+    }
 }
 
 /// An accepted plan stays one, however often its windows are cut where no

@@ -1,38 +1,35 @@
 //! Writes an image to standard output.
 //!
-//! Arguments: a shape (full) and a seed (1).
+//! Arguments: a shape (full), or `mutant`, and a seed (1). Or `text`, a seed
+//! (1) and the number (0) of an image that `texts` hands to a program.
 
 use std::io::{self, Write};
 
-use peer::{generate, mutate, Rng};
+use peer::generate::{Shape, SHAPES};
+use peer::{mutate, texts, Rng};
 
 fn main() -> io::Result<()> {
     let mut arguments = std::env::args().skip(1);
-    let shape = arguments.next().unwrap_or_else(|| "full".to_string());
-    let seed = arguments.next().map_or(1, |text| {
-        text.parse().expect("the second argument is a number")
-    });
-    io::stdout().write_all(&image(&shape, &mut Rng::new(seed)))
+    let what = arguments.next().unwrap_or_else(|| "full".to_string());
+    let [seed, number] = peer::numbers(arguments, [1, 0]);
+    io::stdout().write_all(&image(&what, seed, number))
 }
 
-fn image(shape: &str, rng: &mut Rng) -> Vec<u8> {
-    let plan = match shape {
-        "bare" => generate::bare(rng),
-        "units" => generate::unit_periods(rng),
-        "tiny" => generate::tiny(rng),
-        "shared" => generate::shared_buffer(rng),
-        "small" => generate::small(rng),
-        "medium" => generate::medium(rng),
-        "rich" => generate::rich(rng),
-        "large" => generate::large(rng),
-        "busy" => generate::busy_core(rng),
-        "kept" => generate::kept_core(rng),
-        "diamond" => generate::diamond(rng),
-        "full" => generate::full(rng),
-        "mutant" => return mutate::mutant(rng),
-        _ => panic!(
-            "shapes: bare units tiny shared small medium rich large busy kept diamond full mutant"
-        ),
-    };
-    plan.encode()
+fn image(what: &str, seed: u64, number: u64) -> Vec<u8> {
+    let rng = &mut Rng::new(seed);
+    match what {
+        "mutant" => mutate::mutant(rng),
+        "text" => texts::image(seed, number),
+        name => shape(name)(rng).encode(),
+    }
+}
+
+fn shape(name: &str) -> Shape {
+    match SHAPES.iter().find(|shape| shape.0 == name) {
+        Some((_, shape)) => *shape,
+        None => {
+            let names = SHAPES.map(|(name, _)| name).join(" ");
+            panic!("shapes: {names} mutant text")
+        }
+    }
 }

@@ -8,12 +8,37 @@
 
 mod chains;
 mod draft;
+mod entries;
 mod shapes;
 mod timeline;
 mod windows;
 
+pub use entries::most_entries;
 pub use shapes::{
     accepted, bare, busy_core, diamond, full, kept_core, large, medium, rich, shared_buffer, small,
     small_rich, tiny, unit_periods,
 };
 pub use windows::cut_window;
+
+use crate::image::Plan;
+use crate::rng::Rng;
+
+/// A way to make accepted plans.
+pub type Shape = fn(&mut Rng) -> Plan;
+
+/// Every shape by its name.
+pub const SHAPES: [(&str, Shape); 13] = [
+    ("bare", bare),
+    ("units", unit_periods),
+    ("tiny", tiny),
+    ("shared", shared_buffer),
+    ("small", small),
+    ("medium", medium),
+    ("rich", rich),
+    ("large", large),
+    ("busy", busy_core),
+    ("kept", kept_core),
+    ("diamond", diamond),
+    ("entries", most_entries),
+    ("full", full),
+];

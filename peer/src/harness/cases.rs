@@ -5,7 +5,7 @@ use super::pair::{Difference, Pair};
 use crate::boundary::{write_state, write_words, STATE};
 use crate::dispatch::{start, State};
 use crate::generate;
-use crate::image::{set_word, TRAILER, WORD};
+use crate::image::{point_back, TRAILER, WORD};
 use crate::mutate::{aim, mutant, mutate};
 use crate::rng::Rng;
 use crate::table::tables;
@@ -48,11 +48,13 @@ pub fn run(case: u64, large: bool, pair: &mut Pair, rng: &mut Rng) -> Result<Out
 }
 
 /// An image, and whether it is a mutant. Most are.
-type Image = (Vec<u8>, bool);
+pub type Image = (Vec<u8>, bool);
 
+/// The image of a case where large ones are among them.
+///
 /// Every four thousandth image is the fullest there is: with all lanes built
 /// three times, each after a check, it takes as long as a thousand others.
-fn image_of(case: u64, rng: &mut Rng) -> Image {
+pub fn image_of(case: u64, rng: &mut Rng) -> Image {
     match case % 4_000 {
         0 => return (generate::full(rng).encode(), false),
         2_000 => return (mutate(&generate::full(rng), rng), true),
@@ -101,9 +103,9 @@ fn small_image(rng: &mut Rng) -> Image {
 
 fn random_bytes(rng: &mut Rng) -> Vec<u8> {
     let length = rng.below(200);
-    let mut image: Vec<u8> = (0..length).map(|_| rng.next() as u8).collect();
+    let mut image = rng.bytes(length);
     if length >= TRAILER && rng.chance(70) {
-        set_word(&mut image, length - WORD, (length - TRAILER) as u32);
+        point_back(&mut image);
     }
     image
 }

@@ -14,9 +14,8 @@ impl Lent {
     /// Lends noise of a length, among more noise and at any alignment.
     pub fn noise(length: usize, rng: &mut Rng) -> Lent {
         let begin = 8 + rng.below(8);
-        let bytes = (0..begin + length + 16).map(|_| rng.next() as u8);
         Lent {
-            bytes: bytes.collect(),
+            bytes: rng.bytes(begin + length + 16),
             begin,
             length,
         }

@@ -11,6 +11,7 @@ use crate::boundary::Boundary;
 use crate::histogram::Histogram;
 use crate::rng::Rng;
 
+pub use cases::image_of;
 pub use lent::Lent;
 pub use pair::{Calls, Difference, Pair};
 

@@ -1,8 +1,8 @@
 //! Changes of the image's bytes, among them those aimed at questions 1 to 3.
 
 use crate::image::{
-    set_word, width, word_at, Plan, Trailer, CHAIN, LINK, LONGEST, ROW_BOUNDS, TABLES, TRAILER,
-    WIDTHS, WORD,
+    point_back, set_word, width, word_at, Plan, Trailer, CHAIN, LINK, LONGEST, ROW_BOUNDS, TABLES,
+    TRAILER, WIDTHS, WORD,
 };
 use crate::rng::Rng;
 
@@ -62,12 +62,6 @@ fn length(mut image: Vec<u8>, rng: &mut Rng) -> Vec<u8> {
         }
     }
     image
-}
-
-/// Makes the last word the length less 92.
-fn point_back(image: &mut [u8]) {
-    let length = image.len();
-    set_word(image, length - WORD, (length - TRAILER) as u32);
 }
 
 fn last_word(mut image: Vec<u8>, rng: &mut Rng) -> Vec<u8> {

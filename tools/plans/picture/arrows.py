@@ -94,5 +94,6 @@ def _draw_job(scene, lane, job):
     ticks = f"{name}: {job.ticks} of {job.owed} ticks"
     long = f"{name}: release {job.release}, due {job.due}, {job.ticks} of {job.owed} ticks"
     label = fitting(right - left, long, ticks, name, str(job.number))
-    scene.svg.text("small", left + 4, y + 11, label)
+    if label:
+        scene.svg.text("small", left + 4, y + 11, label)
     scene.marks_drawn += 1

@@ -1,0 +1,74 @@
+//! Plans whose lanes have as many entries as lanes can have.
+
+use super::draft::shuffled;
+use crate::image::{Plan, ROW_BOUNDS, WINDOW};
+use crate::rng::Rng;
+
+/// Cores of the senders' node and of the receivers'.
+const CORES: u32 = 16;
+const NODES: u32 = 3;
+const CYCLE: u32 = 1_000_000;
+
+/// 32 cores and 64 links with all 1,024 windows, 2,048 pieces and 512 frames,
+/// each with both switches and with ticks between it and the next. The senders
+/// run first, on node 0, then messages go round over eight hops to node 2.
+pub fn most_entries(rng: &mut Rng) -> Plan {
+    let mut plan = Plan {
+        cycle: CYCLE,
+        precision: rng.within(0..=100),
+        ..Plan::default()
+    };
+    add_cores(&mut plan, 0, 100_000, rng);
+    add_cores(&mut plan, NODES - 1, 700_000, rng);
+    add_messages(&mut plan, 400_000, rng);
+    shuffled(plan, rng)
+}
+
+/// Cores of a node, each with a VCPU, a task and its share of the windows,
+/// from a tick on.
+fn add_cores(plan: &mut Plan, node: u32, from: u32, rng: &mut Rng) {
+    for _ in 0..CORES {
+        let core = plan.cores.len() as u32;
+        plan.cores
+            .push([node, rng.within(1..=9), rng.within(1..=9)]);
+        plan.vcpus.push([core]);
+        plan.tasks.push([core, 0, CYCLE, 0, CYCLE]);
+        for window in 0..ROW_BOUNDS[WINDOW as usize - 1].1 / (2 * CORES) {
+            add_window(plan, core, from + 6_000 * window, rng);
+        }
+    }
+}
+
+/// A window with two pieces, from a tick on.
+fn add_window(plan: &mut Plan, core: u32, from: u32, rng: &mut Rng) {
+    let [_, d, v] = plan.cores[core as usize];
+    let start = from + rng.within(0..=999);
+    let mut end = start + v + rng.within(1..=99);
+    for _ in 0..2 {
+        let work = rng.within(1..=99);
+        plan.pieces.push([core, 0, end, d + work]);
+        plan.tasks[core as usize][3] += work;
+        end += d + work + rng.within(1..=99);
+    }
+    plan.windows.push([core, start, end - start]);
+}
+
+/// 64 streams of eight hops over 64 links, hop after hop.
+fn add_messages(plan: &mut Plan, from: u32, rng: &mut Rng) {
+    for link in 0..64 {
+        let [start, end] = [link % NODES, (link + 1) % NODES];
+        let [delay, rate] = [rng.within(0..=100), rng.within(100..=10_000)];
+        plan.links.push([start, end, delay, rate]);
+    }
+    for stream in 0..64 {
+        let [sender, receiver] = [0, CORES].map(|first| first + rng.within(0..=CORES - 1));
+        let payload = rng.within(46..=1_500);
+        plan.streams.push([sender, receiver, CYCLE, 8, payload]);
+        for hop in 0..8 {
+            let first = hop % NODES;
+            let link = first + NODES * rng.within(0..=(63 - first) / NODES);
+            let start = from + 20_000 * hop + 300 * stream + rng.within(0..=99);
+            plan.frames.push([stream, 0, hop, link, start]);
+        }
+    }
+}
