@@ -12,11 +12,11 @@ use lib.Seq.{take-at, drop-at}
 use Rattle.plan.specs.Image.{wordAt}
 use Rattle.plan.specs.Dispatch.{fits, calendarEnds, moved, step, startState, refusal, stepAll}
 use Rattle.plan.specs.Boundary.{wordsOf, bytesOf, stateOf, stateBytes, startNumber, startBytes, stepNumber, stepBytes, recordsOf, refusedNumber, stepAllNumber, stepAllBytes}
-use Rattle.reaperdecade.specs.Loaded.{rowBytes}
+use Rattle.loading.specs.Loaded.{rowBytes}
 use Rattle.plan.specs.declared.LaneState.{LaneState}
 use Rattle.plan.specs.declared.Stepped.{Stepped}
 use Rattle.reaperdecade.proofs.Bytes.{state-length}
 use Rattle.reaperdecade.proofs.Records.{started, records-cons, records-nil}
 
 -- ---- there and back
 

@@ -12,8 +12,8 @@ use Rattle.plan.specs.Boundary.{wordsOf, bytesOf, answerNumber, checkNumber}
 use Rattle.plan.specs.Runs.{Call, allLanes, oneLane, steps, after, Kept, seen, movedBy}
 use Rattle.plan.specs.Cases.{bytes, caseB}
 use Rattle.writing.specs.AllTables.{allTables, allBytes}
-use Rattle.reaperdecade.specs.Loaded.{AreBytes, shownBytes, rowBytes, givesBytes, afterBytes, firstIn, startedRow, builtWords, EveryRun}
-use Rattle.reaperdecade.proofs.Calls.{can-build-all, can-build, demand-3-from-c, demand-3-from-builds}
+use Rattle.loading.specs.Loaded.{AreBytes, shownBytes, rowBytes, givesBytes, afterBytes, firstIn, startedRow, builtWords, EveryRun}
+use Rattle.loading.proofs.Calls.{can-build-all, can-build, demand-3-from-c, demand-3-from-builds}
 
 -- any bytes
 abbrev words : List ℕ

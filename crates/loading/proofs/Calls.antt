@@ -22,11 +22,11 @@ use Rattle.writing.proofs.Tables.{table-length, bytes-done}
 use Rattle.writing.proofs.Fitting.{below-fits}
 use Rattle.writing.proofs.AllTables.{below-small, below-inside, lanes-small, all-done}
 use Rattle.writing.proofs.Reading.{built-fits, all-accepted}
-use Rattle.reaperdecade.specs.Loaded.{AreBytes, Loaded, rowBytes, firstIn, startedRow, builtWords, AllStarted, EachBuilt, AllBuilt, AllBuiltLoads, Demand3AfterBuildAll, Demand3AfterBuilds, CanBuildAll, CanBuild, CanStart, SameWords, Demand3FromC, Demand3FromBuilds}
+use Rattle.loading.specs.Loaded.{AreBytes, Loaded, rowBytes, firstIn, startedRow, builtWords, AllStarted, EachBuilt, AllBuilt, AllBuiltLoads, Demand3AfterBuildAll, Demand3AfterBuilds, CanBuildAll, CanBuild, CanStart, SameWords, Demand3FromC, Demand3FromBuilds}
 use Rattle.reaperdecade.proofs.Bytes.{state-length}
 use Rattle.reaperdecade.proofs.Records.{started}
-use Rattle.reaperdecade.proofs.Runs.{record-at}
-use Rattle.reaperdecade.proofs.Loads.{zero-accepted, one-row, demand-3-through-c}
+use Rattle.loading.proofs.Runs.{record-at}
+use Rattle.loading.proofs.Loads.{zero-accepted, one-row, demand-3-through-c}
 
 -- ---- bytes
 
@@ -86,8 +86,11 @@ module _ (row : List ℕ) (first : ℕ → ℕ) (c : ℕ) where
       let e : 28 * n + 28 ≡ 28 * suc n = omega arith in
       let q : drop (28 * n + 28) (startedRow row first c n) ≡ drop (28 * suc n) row =
       sym (drop-drop 28 (28 * n) (startedRow row first c n)) ∙ ap (drop 28) d ∙ drop-drop 28 (28 * n) row ∙ ap (λ (k : ℕ). drop k row) e in
-      (rw (t, d, q, ← started c (first n) (take 28 (drop (28 * n) row)) w .1) refl)
-      ∙ ap (λ (b : List ℕ). b ++ drop (28 * suc n) row) (sym (one-row (startsAt first c n) (startState c (first n))))
+      ap (λ (v : List ℕ). v ++ startBytes c (first n) (take 28 (drop (28 * n) (startedRow row first c n))) ++ drop (28 * n + 28) (startedRow row first c n)) t
+      ∙ ap (λ (v : List ℕ). x ++ startBytes c (first n) (take 28 v) ++ drop (28 * n + 28) (startedRow row first c n)) d
+      ∙ ap (λ (v : List ℕ). x ++ v ++ drop (28 * n + 28) (startedRow row first c n)) (sym (started c (first n) (take 28 (drop (28 * n) row)) w .1))
+      ∙ ap (λ (v : List ℕ). x ++ stateBytes (startState c (first n)) ++ v) q
+      ∙ ap (λ (v : List ℕ). v ++ drop (28 * suc n) row) (sym (one-row (startsAt first c n) (startState c (first n))))
 
 pub can-start : CanStart
 can-start s row c first h =
@@ -166,6 +169,11 @@ all-laid : (s b : List ℕ) → allAnswer s b .number ≡ 0 → allBytes s b ≡
 unfolding allBytes allTables
 all-laid s b e = rw (eq-eqb (allAnswer s b .number) 0 e) refl
 
+all-bytes : (s b : List ℕ) → allAnswer s b .number ≡ 0 → AreBytes b → AreBytes (allBytes s b)
+all-bytes s b e h =
+    let t : List ℕ = tablesBelow s (lanes s) in
+    rw (all-laid s b e) (are-append (flatMap (bytesOf 4) t) (drop (4 * length t) b) (are-words t) (are-rest (4 * length t) b h))
+
 pub all-built-loads : AllBuiltLoads
 unfolding allNumber
 all-built-loads s b row c h e hc st =
@@ -177,7 +185,7 @@ all-built-loads s b row c h e hc st =
     record {
       plan = is-accepted s a;
       in-calendar = hc;
-      bytes = rw (all-laid s b z) (are-append (flatMap (bytesOf 4) (tablesBelow s n)) r (are-words (tablesBelow s n)) (are-rest (4 * length (tablesBelow s n)) b h));
+      bytes = all-bytes s b z h;
       records = st .0;
       narrow = λ l k. rw (f l k) (first-small s a l k);
       started = all-started s row c (firstIn (allBytes s b)) st;
@@ -258,7 +266,9 @@ module _ (s b : List ℕ) (a : answerOf s ≡ accepted) where
     next-laid z =
         let t : List ℕ = tableOf s n in
         let m : 4 * length (tablesBelow s n) + 4 * length t ≡ 4 * length (tablesBelow s n ++ t) = omega (arith, length-append (tablesBelow s n) t) in
-        (rw (above, lent, build-leaves s n (behind n) z) refl)
+        ap (λ (x : List ℕ). x ++ buildBytes s n (drop (4 * firstIn (builtWords s b n) n) (builtWords s b n))) above
+        ∙ ap (λ (r : List ℕ). before n ++ buildBytes s n r) lent
+        ∙ ap (λ (x : List ℕ). before n ++ x) (build-leaves s n (behind n) z)
         ∙ ap (λ (r : List ℕ). before n ++ (flatMap (bytesOf 4) t ++ r)) (drop-drop (4 * length t) (4 * length (tablesBelow s n)) b ∙ ap (λ (k : ℕ). drop k b) m)
         ∙ sym (append-assoc (before n) (flatMap (bytesOf 4) t) _)
         ∙ ap (λ (x : List ℕ). x ++ drop (4 * length (tablesBelow s n ++ t)) b) (sym (row-append (tablesBelow s n) t))

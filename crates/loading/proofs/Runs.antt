@@ -17,12 +17,12 @@ use Rattle.plan.specs.Boundary.{wordsOf, bytesOf, stateBytes, stepNumber}
 use Rattle.plan.specs.Runs.{Call, allLanes, oneLane, gives, leaves, after, recordShows}
 use Rattle.plan.specs.declared.LaneState.{LaneState}
 use Rattle.plan.specs.declared.Stepped.{Stepped}
-use Rattle.reaperdecade.specs.Loaded.{AreBytes, shownBytes, rowBytes, givesBytes, leavesBytes, afterBytes}
+use Rattle.loading.specs.Loaded.{AreBytes, shownBytes, rowBytes, givesBytes, leavesBytes, afterBytes}
 use Rattle.steps.specs.Lookups.{lookup, fitsTable}
 use Rattle.steps.proofs.Deciding.{fitting}
 use Rattle.writing.proofs.Words.{words-length, words-at}
 use Rattle.reaperdecade.proofs.Bytes.{state-length}
-use Rattle.reaperdecade.proofs.States.{InWidth, AllInWidth, step-of-bytes, step-all-of-bytes}
+use Rattle.loading.proofs.States.{InWidth, AllInWidth, step-of-bytes, step-all-of-bytes}
 
 abbrev none : LaneState
 none = startState 0 0
@@ -180,6 +180,22 @@ abbrev pub AllAmong : ℕ → List Call → Type 0
 AllAmong n [] = Unit {0}
 AllAmong n (c ∷ cs) = Among n c × AllAmong n cs
 
+module _ (ws : List ℕ) where
+  -- calls keep the number of states
+  call-long : (sts : List LaneState) (c : Call) → length (leaves (wordsOf ws) sts c) ≡ length sts
+  unfolding leaves stepAll
+  call-long sts allLanes = go (eqb (refusal (wordsOf ws) sts) 0)
+    where
+      go : (t : Bool) → length (cond t (map (λ st. step (wordsOf ws) st .state) sts) sts) ≡ length sts
+      go true = length-map sts (λ st. step (wordsOf ws) st .state)
+      go false = refl
+  call-long sts (oneLane l) = length-set sts l (step (wordsOf ws) (getD sts l none) .state)
+
+  pub calls-long : (cs : List Call) (sts : List LaneState) → length (after (wordsOf ws) sts cs) ≡ length sts
+  unfolding after
+  calls-long [] sts = refl
+  calls-long (c ∷ cs) sts = calls-long cs (leaves (wordsOf ws) sts c) ∙ call-long sts c
+
 module _ (ws : List ℕ) (b : AreBytes ws) where
   -- a call through C gives what the call gives, and leaves the bytes of the states that the call leaves
   pub call-of-bytes :
@@ -203,20 +219,6 @@ module _ (ws : List ℕ) (b : AreBytes ws) where
       set-kept (wordsOf ws) n sts l (step (wordsOf ws) (getD sts l none) .state) w
       (step-kept (wordsOf ws) n (getD sts l none) (width-at (wordsOf ws) n sts l w h))
 
-  call-long : (sts : List LaneState) (c : Call) → length (leaves (wordsOf ws) sts c) ≡ length sts
-  unfolding leaves stepAll
-  call-long sts allLanes = go (eqb (refusal (wordsOf ws) sts) 0)
-    where
-      go : (t : Bool) → length (cond t (map (λ st. step (wordsOf ws) st .state) sts) sts) ≡ length sts
-      go true = length-map sts (λ st. step (wordsOf ws) st .state)
-      go false = refl
-  call-long sts (oneLane l) = length-set sts l (step (wordsOf ws) (getD sts l none) .state)
-
-  pub calls-long : (cs : List Call) (sts : List LaneState) → length (after (wordsOf ws) sts cs) ≡ length sts
-  unfolding after
-  calls-long [] sts = refl
-  calls-long (c ∷ cs) sts = calls-long cs (leaves (wordsOf ws) sts c) ∙ call-long sts c
-
   -- after any list of calls through C, the row has the bytes of the states that the same calls leave, and the next call gives the same
   pub calls-of-bytes :
       (cs : List Call) (sts : List LaneState) (c : Call)
@@ -228,7 +230,7 @@ module _ (ws : List ℕ) (b : AreBytes ws) where
   unfolding afterBytes after
   calls-of-bytes [] sts c w hs h = (refl, call-of-bytes sts c w h .0)
   calls-of-bytes (d ∷ cs) sts c w hs h =
-      let e = call-long sts d in
+      let e = call-long ws sts d in
       rw
       (call-of-bytes sts d w (hs .0) .1)
       (calls-of-bytes cs (leaves (wordsOf ws) sts d) c (call-kept sts d w (hs .0)) (subst (λ (n : ℕ). AllAmong n cs) (sym e) (hs .1)) (subst (λ (n : ℕ). Among n c) (sym e) h))

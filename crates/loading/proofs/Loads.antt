@@ -17,9 +17,9 @@ use Rattle.writing.proofs.Bytes.{row-length}
 use Rattle.writing.proofs.Words.{Fit, words-row, words-drop}
 use Rattle.writing.proofs.Tables.{table-length}
 use Rattle.writing.proofs.Fitting.{table-fits}
-use Rattle.reaperdecade.specs.Loaded.{Loaded, shownBytes, rowBytes, givesBytes, afterBytes, Demand3ThroughC}
-use Rattle.reaperdecade.proofs.States.{InWidth, AllInWidth}
-use Rattle.reaperdecade.proofs.Runs.{AllAmong, append-row, shown-at, calls-long, calls-of-bytes}
+use Rattle.loading.specs.Loaded.{Loaded, shownBytes, rowBytes, givesBytes, afterBytes, Demand3ThroughC}
+use Rattle.loading.proofs.States.{InWidth, AllInWidth}
+use Rattle.loading.proofs.Runs.{AllAmong, append-row, shown-at, calls-long, calls-of-bytes}
 
 -- ---- words that bytes stand for
 
@@ -139,7 +139,7 @@ module _ (s ws row : List ℕ) (c : ℕ) (first : ℕ → ℕ) (g : Loaded s ws 
     unfolding recordShows
     shown-are earlier call later q l k =
         let to : List Call = earlier ++ call ∷ [] in
-        let n = calls-long ws (g .bytes) to states in
+        let n = calls-long ws to states in
         ap (λ (b : List ℕ). take 8 (drop (28 * l + 20) b)) (rows-are to later (q ∙ sym (append-assoc earlier (call ∷ []) later)))
         ∙ shown-at (after (wordsOf ws) states to) l (omega (arith, starts-many first c (lanes s)))
 

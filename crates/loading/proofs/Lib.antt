@@ -1,0 +1,5 @@
+pub mod States
+pub mod Runs
+pub mod Loads
+pub mod Calls
+pub mod Witness
