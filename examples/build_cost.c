@@ -16,7 +16,7 @@
 #include "reaperdecade.h"
 
 static uint8_t image[65536];
-static uint8_t words[1u << 22];
+static uint8_t words[4 * RD_ALL_LANES_WORDS];
 
 static uint32_t word_at(size_t i)
 {

@@ -96,6 +96,14 @@ uint64_t rd_build(const uint8_t *image, size_t image_len, uint32_t lane, uint8_t
 uint64_t rd_build_all(const uint8_t *image, size_t image_len, uint8_t *words, size_t words_len);
 
 /*
+ * So many words suffice for every accepted plan: for the table of one lane, and
+ * for the tables of all lanes together, built by rd_build_all or by rd_build
+ * one after another. No build of a lane that there is gives 26 then.
+ */
+#define RD_LANE_WORDS 27653
+#define RD_ALL_LANES_WORDS 31200
+
+/*
  * A lane's state is 28 bytes, the lowest byte of each number first:
  *
  *     byte   0   8 bytes   cycle

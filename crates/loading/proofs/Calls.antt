@@ -22,7 +22,8 @@ use Rattle.writing.proofs.Tables.{table-length, bytes-done}
 use Rattle.writing.proofs.Fitting.{below-fits}
 use Rattle.writing.proofs.AllTables.{below-small, below-inside, lanes-small, all-done}
 use Rattle.writing.proofs.Reading.{built-fits, all-accepted}
-use Rattle.loading.specs.Loaded.{AreBytes, Loaded, rowBytes, firstIn, startedRow, builtWords, AllStarted, EachBuilt, AllBuilt, AllBuiltLoads, Demand3AfterBuildAll, Demand3AfterBuilds, CanBuildAll, CanBuild, CanStart, SameWords, Demand3FromC, Demand3FromBuilds}
+use Rattle.loading.specs.Loaded.{AreBytes, Loaded, rowBytes, firstIn, startedRow, builtWords, AllStarted, EachBuilt, AllBuilt, AllBuiltLoads, Demand3AfterBuildAll, Demand3AfterBuilds, CanBuildAll, CanBuild, RoomForLane, RoomForAll, CanStart, SameWords, Demand3FromC, Demand3FromBuilds}
+use Rattle.sizes.proofs.Bounds.{lane-fits, tables-fit}
 use Rattle.reaperdecade.proofs.Bytes.{state-length}
 use Rattle.reaperdecade.proofs.Records.{started}
 use Rattle.loading.proofs.Runs.{record-at}
@@ -300,6 +301,14 @@ unfolding checkNumber
 can-build s b e h l k =
     let a = zero-accepted (answerOf s) e in
     rw (lent s b a l (enough-laid s b a h l (omega arith))) (enough-takes s b a h l k)
+
+pub room-for-lane : RoomForLane
+unfolding checkNumber
+room-for-lane s l b e h k = let a = zero-accepted (answerOf s) e in build-takes s l b a h (omega (arith, lane-fits s a l .1))
+
+pub room-for-all : RoomForAll
+unfolding checkNumber
+room-for-all s b e k = let a = zero-accepted (answerOf s) e in can-build-all s b (is-accepted s a) (omega (arith, tables-fit s a .1))
 
 pub same-words : SameWords
 unfolding checkNumber allNumber allTables

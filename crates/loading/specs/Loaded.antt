@@ -135,6 +135,13 @@ CanBuildAll = (s b : List ℕ) → checkNumber s ≡ 0 → 4 * length (allTables
 abbrev pub CanBuild : Type 0
 CanBuild = (s b : List ℕ) → checkNumber s ≡ 0 → 4 * length (allTables s) ≤ length b → AllBuilt s b
 
+-- these suffice for every accepted plan: RD_LANE_WORDS and RD_ALL_LANES_WORDS of the header
+abbrev pub RoomForLane : Type 0
+RoomForLane = (s : List ℕ) (l : ℕ) (b : List ℕ) → checkNumber s ≡ 0 → l < lanes s → 4 * 27653 ≤ length b → buildNumber s l b ≡ 0
+
+abbrev pub RoomForAll : Type 0
+RoomForAll = (s b : List ℕ) → checkNumber s ≡ 0 → 4 * 31200 ≤ length b → allNumber s b ≡ 0
+
 abbrev pub CanStart : Type 0
 CanStart = (s row : List ℕ) (c : ℕ) (first : ℕ → ℕ) → length row ≡ 28 * lanes s → AllStarted s (startedRow row first c (lanes s)) c first
 
