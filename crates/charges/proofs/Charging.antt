@@ -10,11 +10,11 @@ use Rattle.charges.specs.Charges.{ChargedTo}
 
 module _ (s : List ℕ) where
   pub charged-none : (charges : List ℕ) → length charges ≡ 1024 → ChargedTo s charges 0
-  charged-none charges e = record { size = e; each = kept-none charges 0 (charge s) (omega arith) }
+  charged-none charges e = record { size = e; each = kept-none charges 0 _ (omega arith) }
 
   pub charged-more : (charges : List ℕ) (n : ℕ) → n < 1024 → ChargedTo s charges n → ChargedTo s (set charges n (charge s n)) (n + 1)
   charged-more charges n l h =
       record {
         size = length-set charges n (charge s n) ∙ h .size;
-        each = kept-on charges n (charge s) (h .each) (omega (arith, h .size)) (charge s n) refl;
+        each = kept-on charges n _ (h .each) (omega (arith, h .size)) (charge s n) refl;
       }

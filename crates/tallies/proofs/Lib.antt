@@ -1,3 +1,4 @@
 pub mod Tallying
 pub mod Latest
+pub mod Sums
 pub mod Places

@@ -1,6 +1,6 @@
 -- Places of jobs: each has one of its own, and there are no more than pieces where every job has a piece.
 use Prim.Native.Nat.{ℕ, zero, suc, _+_, _-_, _≤_, _<_}
-use mathlib.Core.Path.{_≡_, refl, sym, ap, _∙_, subst}
+use mathlib.Core.Path.{_≡_, refl, sym, ap, subst}
 use mathlib.Core.Logic.{_⊎_, inl, inr}
 use mathlib.Core.Bool.{Bool, true, false, cond}
 use native.Mathlib.Nat.{not-suc-le-zero, eq-or-lt-of-le, le-of-suc-le-suc}
@@ -9,14 +9,7 @@ use native.Mathlib.Omega.{arith}
 use lib.Dec.{eqb}
 use borrow.Author.Tests.{eqb-true, eq-eqb}
 use Rattle.plan.specs.Search.{sum}
-
-sum-next : (f : ℕ → ℕ) (n : ℕ) → sum (suc n) f ≡ sum n f + f n
-unfolding sum
-sum-next f n = refl
-
-sum-zero : (f : ℕ → ℕ) → sum 0 f ≡ 0
-unfolding sum
-sum-zero f = refl
+use Rattle.tallies.proofs.Sums.{sum-next, sum-zero, sum-le, sum-ones, swapped}
 
 module _ (f : ℕ → ℕ) where
   pub sum-mono : (a b : ℕ) → a ≤ b → sum a f ≤ sum b f
@@ -51,34 +44,6 @@ module _ (f : ℕ → ℕ) where
       go (no h) r = (n, v - sum n f, omega arith, omega (arith, sum-next f n), omega arith)
 
 -- ---- counting
-
-sum-le : (f g : ℕ → ℕ) (n : ℕ) → ((i : ℕ) → i < n → f i ≤ g i) → sum n f ≤ sum n g
-sum-le f g zero h = omega (arith, sum-zero f, sum-zero g)
-sum-le f g (suc n) h = let k = sum-le f g n (λ i l. h i (omega arith)) in omega (arith, sum-next f n, sum-next g n, h n (omega arith))
-
-sum-ones : (n : ℕ) → sum n (λ _. 1) ≡ n
-sum-ones zero = sum-zero (λ _. 1)
-sum-ones (suc n) = let k = sum-ones n in omega (arith, sum-next (λ _. 1) n)
-
-sum-add : (f g : ℕ → ℕ) (n : ℕ) → sum n (λ i. f i + g i) ≡ sum n f + sum n g
-sum-add f g zero = omega (arith, sum-zero f, sum-zero g, sum-zero (λ i. f i + g i))
-sum-add f g (suc n) = let k = sum-add f g n in omega (arith, sum-next f n, sum-next g n, sum-next (λ i. f i + g i) n)
-
-sum-zeros : (n : ℕ) → sum n (λ _. 0) ≡ 0
-sum-zeros zero = sum-zero (λ _. 0)
-sum-zeros (suc n) = let k = sum-zeros n in omega (arith, sum-next (λ _. 0) n)
-
-sum-cong : (f g : ℕ → ℕ) (n : ℕ) → ((i : ℕ) → f i ≡ g i) → sum n f ≡ sum n g
-sum-cong f g zero h = sum-zero f ∙ sym (sum-zero g)
-sum-cong f g (suc n) h = let k = sum-cong f g n h in omega (arith, sum-next f n, sum-next g n, h n)
-
--- a table of numbers sums to the same by rows and by columns
-swapped : (h : ℕ → ℕ → ℕ) (m n : ℕ) → sum m (λ v. sum n (h v)) ≡ sum n (λ i. sum m (λ v. h v i))
-swapped h zero n = sum-zero (λ v. sum n (h v)) ∙ sym (sum-cong _ (λ _. 0) n (λ i. sum-zero (λ v. h v i)) ∙ sum-zeros n)
-swapped h (suc m) n =
-    sum-next (λ v. sum n (h v)) m
-    ∙ ap (λ (x : ℕ). x + sum n (h m)) (swapped h m n)
-    ∙ sym (sum-cong _ _ n (λ i. sum-next (λ v. h v i) m) ∙ sum-add (λ i. sum m (λ v. h v i)) (h m) n)
 
 -- one of v's values at the most is x
 hits : ℕ → ℕ → ℕ
