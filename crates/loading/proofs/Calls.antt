@@ -22,7 +22,7 @@ use Rattle.writing.proofs.Tables.{table-length, bytes-done}
 use Rattle.writing.proofs.Fitting.{below-fits}
 use Rattle.writing.proofs.AllTables.{below-small, below-inside, lanes-small, all-done}
 use Rattle.writing.proofs.Reading.{built-fits, all-accepted}
-use Rattle.loading.specs.Loaded.{AreBytes, Loaded, rowBytes, firstIn, startedRow, builtWords, AllStarted, EachBuilt, AllBuilt, AllBuiltLoads, Demand3AfterBuildAll, Demand3AfterBuilds, CanBuildAll, CanBuild, RoomForLane, RoomForAll, CanStart, SameWords, Demand3FromC, Demand3FromBuilds}
+use Rattle.loading.specs.Loaded.{AreBytes, Loaded, rowBytes, firstIn, startedRow, builtWords, AllStarted, EachBuilt, AllBuilt, AllBuiltLoads, Demand3AfterBuildAll, Demand3AfterBuilds, CanBuildAll, CanBuild, CanHold, RoomForLane, RoomForAll, CanStart, SameWords, Demand3FromC, Demand3FromBuilds}
 use Rattle.sizes.proofs.Bounds.{lane-fits, tables-fit}
 use Rattle.reaperdecade.proofs.Bytes.{state-length}
 use Rattle.reaperdecade.proofs.Records.{started}
@@ -199,12 +199,22 @@ demand-3-after-build-all s b row c h e hc st =
 
 -- ---- words that rd_build left, lane by lane
 
-built-front : (s : List ℕ) (l : ℕ) (b : List ℕ) → buildNumber s l b ≡ 0 → take (4 * length (tableOf s l)) (buildBytes s l b) ≡ flatMap (bytesOf 4) (tableOf s l)
-unfolding buildNumber buildBytes
-built-front s l b e =
-    let z : buildAnswer s l (wordsOf b) .number ≡ 0 = ap (λ (a : Answer). a .number) (zero-accepted (buildAnswer s l (wordsOf b)) e) in
-    rw (eq-eqb (buildAnswer s l (wordsOf b) .number) 0 z)
-    (take-at (flatMap (bytesOf 4) (tableOf s l)) (drop (4 * length (tableOf s l)) b) (4 * length (tableOf s l)) (row-length (tableOf s l)))
+-- an rd_build that gave 0 had enough words, and left the table before the bytes behind it
+build-zero : (s : List ℕ) (l : ℕ) (r : List ℕ) → buildNumber s l r ≡ 0 → buildAnswer s l (wordsOf r) .number ≡ 0
+unfolding buildNumber
+build-zero s l r e = ap (λ (x : Answer). x .number) (zero-accepted (buildAnswer s l (wordsOf r)) e)
+
+takes-build : (s : List ℕ) (l : ℕ) (r : List ℕ) → buildNumber s l r ≡ 0 → 4 * length (tableOf s l) ≤ length r
+takes-build s l r e = omega (arith, built-fits s l (wordsOf r) (build-zero s l r e), words-length r)
+
+build-leaves : (s : List ℕ) (l : ℕ) (r : List ℕ) → buildNumber s l r ≡ 0 → buildBytes s l r ≡ flatMap (bytesOf 4) (tableOf s l) ++ drop (4 * length (tableOf s l)) r
+unfolding buildBytes
+build-leaves s l r e = rw (eq-eqb (buildAnswer s l (wordsOf r) .number) 0 (build-zero s l r e)) refl
+
+built-front : (s : List ℕ) (l : ℕ) (r : List ℕ) → buildNumber s l r ≡ 0 → take (4 * length (tableOf s l)) (buildBytes s l r) ≡ flatMap (bytesOf 4) (tableOf s l)
+built-front s l r e =
+    let n : ℕ = 4 * length (tableOf s l) in
+    ap (take n) (build-leaves s l r e) ∙ take-at (flatMap (bytesOf 4) (tableOf s l)) (drop n r) n (row-length (tableOf s l))
 
 builds-load : (s ws row : List ℕ) (c : ℕ) (first : ℕ → ℕ) → AreBytes ws → checkNumber s ≡ 0 → EachBuilt s ws first → c < 2 ^ 64 → AllStarted s row c first
     → Loaded s ws row c first
@@ -224,22 +234,10 @@ demand-3-after-builds s ws row c first h e built hc st = demand-3-through-c s ws
 
 -- ---- rd_build in turn, in place
 
--- the words suffice exactly where an rd_build of a lane gives 0
+-- where the words suffice, an rd_build of a lane gives 0
 build-takes : (s : List ℕ) (l : ℕ) (r : List ℕ) → answerOf s ≡ accepted → l < lanes s → 4 * length (tableOf s l) ≤ length r → buildNumber s l r ≡ 0
 unfolding buildNumber answerNumber
 build-takes s l r a h k = let t = table-length s l in rw (← bytes-done s l r a h (omega arith) .answer) refl
-
-takes-build : (s : List ℕ) (l : ℕ) (r : List ℕ) → buildNumber s l r ≡ 0 → 4 * length (tableOf s l) ≤ length r
-unfolding buildNumber
-takes-build s l r e =
-    let z : buildAnswer s l (wordsOf r) .number ≡ 0 = ap (λ (x : Answer). x .number) (zero-accepted (buildAnswer s l (wordsOf r)) e) in
-    omega (arith, built-fits s l (wordsOf r) z, words-length r)
-
-build-leaves : (s : List ℕ) (l : ℕ) (r : List ℕ) → buildNumber s l r ≡ 0 → buildBytes s l r ≡ flatMap (bytesOf 4) (tableOf s l) ++ drop (4 * length (tableOf s l)) r
-unfolding buildNumber buildBytes
-build-leaves s l r e =
-    let z : buildAnswer s l (wordsOf r) .number ≡ 0 = ap (λ (x : Answer). x .number) (zero-accepted (buildAnswer s l (wordsOf r)) e) in
-    rw (eq-eqb (buildAnswer s l (wordsOf r) .number) 0 z) refl
 
 module _ (s b : List ℕ) (a : answerOf s ≡ accepted) where
   abbrev before : ℕ → List ℕ
@@ -308,7 +306,10 @@ room-for-lane s l b e h k = let a = zero-accepted (answerOf s) e in build-takes 
 
 pub room-for-all : RoomForAll
 unfolding checkNumber
-room-for-all s b e k = let a = zero-accepted (answerOf s) e in can-build-all s b (is-accepted s a) (omega (arith, tables-fit s a .1))
+room-for-all s b e k =
+    let m = tables-fit s (zero-accepted (answerOf s) e) .1 in
+    let h : 4 * length (allTables s) ≤ length b = omega arith in
+    (can-build-all s b e h, can-build s b e h)
 
 pub same-words : SameWords
 unfolding checkNumber allNumber allTables
@@ -317,6 +318,16 @@ same-words s b e h =
     let p = taken-laid s b a h (lanes s) (omega arith) in
     let z = can-build-all s b (is-accepted s a) (unfold allTables in p .1) in
     (z, p .0 ∙ sym (all-laid s b (ap (λ (x : Answer). x .number) (zero-accepted (allAnswer s b) z))))
+
+pub can-hold : CanHold
+unfolding checkNumber
+can-hold s b e h l k =
+    let a = zero-accepted (answerOf s) e in
+    let p = taken-laid s b a h (lanes s) (omega arith) .0 in
+    let f : firstIn (builtWords s b (lanes s)) l ≡ firstWord s l = rw p (first-laid s a (lanes s) _ l (omega arith)) in
+    let ws : List ℕ = builtWords s b l in
+    let r : List ℕ = drop (4 * firstIn ws l) ws in
+    (rw f (first-small s a l k), (r, h l k, rw (f, p) (held-laid s (lanes s) _ l k ∙ sym (built-front s l r (h l k)))))
 
 -- ---- in one
 

@@ -9,11 +9,11 @@ use lib.Dec.{ltb}
 use Rattle.plan.specs.Image.{cycleTicks, precision}
 use Rattle.plan.specs.Dispatch.{lanes, shownAt, startsAt, dispatch}
 use Rattle.plan.specs.Boundary.{wordsOf, bytesOf, answerNumber, checkNumber}
-use Rattle.plan.specs.Runs.{Call, allLanes, oneLane, steps, after, Kept, seen, movedBy}
+use Rattle.plan.specs.Runs.{Call, allLanes, oneLane, steps, after, atEnd, Kept, seen, movedBy}
 use Rattle.plan.specs.Cases.{bytes, caseB}
 use Rattle.writing.specs.AllTables.{allTables, allBytes}
 use Rattle.loading.specs.Loaded.{AreBytes, shownBytes, rowBytes, givesBytes, afterBytes, firstIn, startedRow, builtWords, EveryRun}
-use Rattle.loading.proofs.Calls.{can-build-all, can-build, demand-3-from-c, demand-3-from-builds}
+use Rattle.loading.proofs.Calls.{can-build-all, can-build, can-hold, can-start, same-words, all-built-loads, demand-3-after-builds, demand-3-from-c, demand-3-from-builds}
 
 -- any bytes
 abbrev words : List ℕ
@@ -78,39 +78,52 @@ part : afterBytes ws (row 5) lane-1-alone ≡ rowBytes (after (wordsOf ws) (star
 unfolding lane-1-alone
 part = runs 5 (omega arith) ahead near (replicate 40 allLanes ++ oneLane 1 ∷ allLanes ∷ []) named .rows (replicate 40 allLanes ++ oneLane 1 ∷ []) (allLanes ∷ []) refl
 
+alone : givesBytes ws (afterBytes ws (row 5) (replicate 40 allLanes)) (oneLane 1)
+    ≡ cond (atEnd (bytes caseB) (wordsOf ws) (startsAt first 5 (lanes (bytes caseB))) 5 (replicate 40 allLanes) (oneLane 1)) 28 0
+alone = runs 5 (omega arith) ahead near (replicate 40 allLanes ++ oneLane 1 ∷ allLanes ∷ []) named .number (replicate 40 allLanes) (oneLane 1) (allLanes ∷ []) refl
+
 next : givesBytes ws (afterBytes ws (row 5) (replicate 40 allLanes)) allLanes ≡ 0
 unfolding dispatch bytes caseB
 next = runs 5 (omega arith) ahead near (replicate 41 allLanes) tt .number-all 40 [] refl
 
-in-calendar : _≡_ {A = ℕ} (cond (ltb (5 * cycleTicks (bytes caseB) + 2) (2 ^ 64 * cycleTicks (bytes caseB) - 1)) 0 28) 0
+in-calendar : _≡_ {A = ℕ} (cond (ltb (5 * cycleTicks (bytes caseB) + 10) (2 ^ 64 * cycleTicks (bytes caseB) - 1)) 0 28) 0
 unfolding dispatch bytes caseB
 in-calendar = refl
 
-some-lane : 0 < lanes (bytes caseB)
+lane-1 : 1 < lanes (bytes caseB)
 unfolding dispatch bytes caseB
-some-lane = omega arith
+lane-1 = omega arith
 
--- after the third call lane 0's record shows the task switch of piece 0, in its bytes 20 to 27
-two-moved : movedBy (bytes caseB) (wordsOf ws) (startsAt first 5 (lanes (bytes caseB))) 5 (replicate 2 allLanes) 0 ≡ 2
+-- after the eleventh call lane 1's record shows the task switch of piece 1, in its bytes 20 to 27
+ten-moved : movedBy (bytes caseB) (wordsOf ws) (startsAt first 5 (lanes (bytes caseB))) 5 (replicate 10 allLanes) 1 ≡ 10
 unfolding dispatch bytes caseB
-two-moved = let e = runs 5 (omega arith) ahead near (replicate 2 allLanes) tt .holds .moved-all 2 refl 0 (omega arith) in omega (arith, e)
+ten-moved = let e = runs 5 (omega arith) ahead near (replicate 10 allLanes) tt .holds .moved-all 10 refl 1 (omega arith) in omega (arith, e)
 
-switches : shownBytes (shownAt (bytes caseB) 0 (2 % cycleTicks (bytes caseB))) ≡ 3 ∷ 0 ∷ 0 ∷ 0 ∷ 0 ∷ 0 ∷ 0 ∷ 0 ∷ []
+switches : shownBytes (shownAt (bytes caseB) 1 (10 % cycleTicks (bytes caseB))) ≡ 3 ∷ 0 ∷ 0 ∷ 0 ∷ 1 ∷ 0 ∷ 0 ∷ 0 ∷ []
 unfolding dispatch bytes caseB bytesOf
 switches = refl
 
-third : take 8 (drop (28 * 0 + 20) (afterBytes ws (row 5) (replicate 3 allLanes))) ≡ 3 ∷ 0 ∷ 0 ∷ 0 ∷ 0 ∷ 0 ∷ 0 ∷ 0 ∷ []
+eleventh : take 8 (drop (28 * 1 + 20) (afterBytes ws (row 5) (replicate 11 allLanes))) ≡ 3 ∷ 0 ∷ 0 ∷ 0 ∷ 1 ∷ 0 ∷ 0 ∷ 0 ∷ []
 unfolding steps
-third =
+eleventh =
     let r = runs 5 (omega arith) ahead near (replicate 41 allLanes) tt in
-    r .shown (replicate 2 allLanes) allLanes (replicate 38 allLanes) refl (r .number-all 2 (replicate 38 allLanes) refl ∙ in-calendar) 0 some-lane refl
-    ∙ ap (λ (n : ℕ). shownBytes (shownAt (bytes caseB) 0 (n % cycleTicks (bytes caseB)))) two-moved
+    r .shown (replicate 10 allLanes) allLanes (replicate 30 allLanes) refl (r .number-all 10 (replicate 30 allLanes) refl ∙ in-calendar) 1 lane-1 refl
+    ∙ ap (λ (n : ℕ). shownBytes (shownAt (bytes caseB) 1 (n % cycleTicks (bytes caseB)))) ten-moved
     ∙ switches
 
 -- rd_build of each lane in turn does as well
 in-turn : EveryRun (bytes caseB) (builtWords (bytes caseB) words 3) (startedRow records (firstIn (builtWords (bytes caseB) words 3)) 5 3) 5 (firstIn (builtWords (bytes caseB) words 3))
 unfolding dispatch bytes caseB
 in-turn = demand-3-from-builds (bytes caseB) words records 5 (sevens 400) takes (can-build (bytes caseB) words takes enough) three (omega arith)
+
+-- and so do its tables for one who takes them to be what some rd_build left
+any-build : EveryRun (bytes caseB) (builtWords (bytes caseB) words 3) (startedRow records (firstIn (builtWords (bytes caseB) words 3)) 5 3) 5 (firstIn (builtWords (bytes caseB) words 3))
+unfolding dispatch bytes caseB
+any-build =
+    let b = can-build (bytes caseB) words takes enough in
+    demand-3-after-builds (bytes caseB) (builtWords (bytes caseB) words 3) _ 5 _
+    (rw (same-words (bytes caseB) words takes b .1) (all-built-loads (bytes caseB) words _ 5 (sevens 400) (can-build-all (bytes caseB) words takes enough) (omega arith) (can-start (bytes caseB) records 5 first three) .bytes))
+    takes (can-hold (bytes caseB) words takes b) (omega arith) (can-start (bytes caseB) records 5 _ three)
 
 -- in the calendar's last cycle the twentieth call of all lanes is refused with 28
 last : givesBytes ws (afterBytes ws (row (2 ^ 64 - 1)) (replicate 19 allLanes)) allLanes ≡ 28

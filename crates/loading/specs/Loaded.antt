@@ -135,12 +135,16 @@ CanBuildAll = (s b : List ℕ) → checkNumber s ≡ 0 → 4 * length (allTables
 abbrev pub CanBuild : Type 0
 CanBuild = (s b : List ℕ) → checkNumber s ≡ 0 → 4 * length (allTables s) ≤ length b → AllBuilt s b
 
+-- and then each table is what an rd_build left
+abbrev pub CanHold : Type 0
+CanHold = (s b : List ℕ) → checkNumber s ≡ 0 → AllBuilt s b → let ws = builtWords s b (lanes s) in EachBuilt s ws (firstIn ws)
+
 -- these suffice for every accepted plan: RD_LANE_WORDS and RD_ALL_LANES_WORDS of the header
 abbrev pub RoomForLane : Type 0
 RoomForLane = (s : List ℕ) (l : ℕ) (b : List ℕ) → checkNumber s ≡ 0 → l < lanes s → 4 * 27653 ≤ length b → buildNumber s l b ≡ 0
 
 abbrev pub RoomForAll : Type 0
-RoomForAll = (s b : List ℕ) → checkNumber s ≡ 0 → 4 * 31200 ≤ length b → allNumber s b ≡ 0
+RoomForAll = (s b : List ℕ) → checkNumber s ≡ 0 → 4 * 31200 ≤ length b → (allNumber s b ≡ 0) × AllBuilt s b
 
 abbrev pub CanStart : Type 0
 CanStart = (s row : List ℕ) (c : ℕ) (first : ℕ → ℕ) → length row ≡ 28 * lanes s → AllStarted s (startedRow row first c (lanes s)) c first
@@ -149,8 +153,8 @@ CanStart = (s row : List ℕ) (c : ℕ) (first : ℕ → ℕ) → length row ≡
 abbrev pub SameWords : Type 0
 SameWords = (s b : List ℕ) → checkNumber s ≡ 0 → AllBuilt s b → (allNumber s b ≡ 0) × (builtWords s b (lanes s) ≡ allBytes s b)
 
--- So, of any image and any bytes, with no premise about words or records but that rd_build_all gave 0 (or rd_check and each rd_build):
--- the words that it left, and rd_start of each lane over any row of 28 bytes for each, at the first words that the header names.
+-- So, of any image, any bytes for words and any row of 28 bytes for each lane, if rd_build_all gave 0 (or rd_check and each rd_build): the
+-- words that it left, and the row after rd_start of each lane at the first words that the header names.
 abbrev pub Demand3FromC : Type 0
 Demand3FromC =
     (s b row : List ℕ) (c : ℕ) → AreBytes b → allNumber s b ≡ 0 → length row ≡ 28 * lanes s → c < 2 ^ 64
