@@ -1,8 +1,8 @@
 //! The generator's plans are accepted, and its shapes are what they say.
 
 use peer::generate::{
-    accepted, bare, busy_core, cut_window, diamond, full, kept_core, large, medium, most_entries,
-    rich, shared_buffer, small, tiny, unit_periods,
+    accepted, bare, busy_core, cut_window, diamond, full, kept_core, large, longest_lane, medium,
+    most_entries, rich, shared_buffer, small, tiny, unit_periods,
 };
 use peer::{check, report, Answer, Plan, Rng};
 
@@ -32,6 +32,7 @@ fn every_shape_is_accepted() {
     all_accepted(10, busy_core);
     all_accepted(100, diamond);
     all_accepted(10, most_entries);
+    all_accepted(10, longest_lane);
     all_accepted(10, full);
 }
 
@@ -79,6 +80,8 @@ fn no_plan_has_more_entries() {
     for seed in 0..10 {
         let text = report(&most_entries(&mut Rng::new(seed)).encode());
         assert_eq!(text.lines().count(), 1 + 3 * (1024 + 2048) + 2 * 512 + 96);
+        let text = report(&longest_lane(&mut Rng::new(seed)).encode());
+        assert_eq!(text.lines().count(), 1 + 3 * (1024 + 2048) + 1);
     }
 }
 

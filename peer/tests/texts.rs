@@ -44,7 +44,7 @@ fn too_few_images_are_noticed() {
         "a refused row of 4 digits",
         "a shown row of 2 digits",
         "a first tick of 6 digits",
-        "a lane with more than 100 entries",
+        "a lane with 9217 entries",
         "a text with 96 lanes",
         "a text of 10337 lines",
     ] {

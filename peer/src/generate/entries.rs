@@ -1,4 +1,4 @@
-//! Plans whose lanes have as many entries as lanes can have.
+//! Plans whose lanes, or one of whose lanes, have as many entries as can be.
 
 use super::draft::shuffled;
 use crate::image::{Plan, ROW_BOUNDS, WINDOW};
@@ -8,6 +8,7 @@ use crate::rng::Rng;
 const CORES: u32 = 16;
 const NODES: u32 = 3;
 const CYCLE: u32 = 1_000_000;
+const WINDOWS: u32 = ROW_BOUNDS[WINDOW as usize - 1].1;
 
 /// 32 cores and 64 links with all 1,024 windows, 2,048 pieces and 512 frames,
 /// each with both switches and with ticks between it and the next. The senders
@@ -18,31 +19,42 @@ pub fn most_entries(rng: &mut Rng) -> Plan {
         precision: rng.within(0..=100),
         ..Plan::default()
     };
-    add_cores(&mut plan, 0, 100_000, rng);
-    add_cores(&mut plan, NODES - 1, 700_000, rng);
+    for (node, from) in [(0, 100_000), (NODES - 1, 700_000)] {
+        for _ in 0..CORES {
+            add_core(&mut plan, node, WINDOWS / (2 * CORES), [from, 6_000], rng);
+        }
+    }
     add_messages(&mut plan, 400_000, rng);
     shuffled(plan, rng)
 }
 
-/// Cores of a node, each with a VCPU, a task and its share of the windows,
-/// from a tick on.
-fn add_cores(plan: &mut Plan, node: u32, from: u32, rng: &mut Rng) {
-    for _ in 0..CORES {
-        let core = plan.cores.len() as u32;
-        plan.cores
-            .push([node, rng.within(1..=9), rng.within(1..=9)]);
-        plan.vcpus.push([core]);
-        plan.tasks.push([core, 0, CYCLE, 0, CYCLE]);
-        for window in 0..ROW_BOUNDS[WINDOW as usize - 1].1 / (2 * CORES) {
-            add_window(plan, core, from + 6_000 * window, rng);
-        }
+/// One core with all 1,024 windows and 2,048 pieces, each as above.
+pub fn longest_lane(rng: &mut Rng) -> Plan {
+    let mut plan = Plan {
+        cycle: CYCLE,
+        ..Plan::default()
+    };
+    add_core(&mut plan, 0, WINDOWS, [100, 970], rng);
+    shuffled(plan, rng)
+}
+
+/// A core of a node with a VCPU, a task and so many windows, from a tick on
+/// and so many ticks apart.
+fn add_core(plan: &mut Plan, node: u32, windows: u32, [from, apart]: [u32; 2], rng: &mut Rng) {
+    let core = plan.cores.len() as u32;
+    plan.cores
+        .push([node, rng.within(1..=9), rng.within(1..=9)]);
+    plan.vcpus.push([core]);
+    plan.tasks.push([core, 0, CYCLE, 0, CYCLE]);
+    for window in 0..windows {
+        add_window(plan, core, from + apart * window, rng);
     }
 }
 
-/// A window with two pieces, from a tick on.
+/// A window with two pieces, of at most 522 ticks, from some tick on.
 fn add_window(plan: &mut Plan, core: u32, from: u32, rng: &mut Rng) {
     let [_, d, v] = plan.cores[core as usize];
-    let start = from + rng.within(0..=999);
+    let start = from + rng.within(0..=400);
     let mut end = start + v + rng.within(1..=99);
     for _ in 0..2 {
         let work = rng.within(1..=99);

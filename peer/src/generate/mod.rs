@@ -13,7 +13,7 @@ mod shapes;
 mod timeline;
 mod windows;
 
-pub use entries::most_entries;
+pub use entries::{longest_lane, most_entries};
 pub use shapes::{
     accepted, bare, busy_core, diamond, full, kept_core, large, medium, rich, shared_buffer, small,
     small_rich, tiny, unit_periods,
@@ -27,7 +27,7 @@ use crate::rng::Rng;
 pub type Shape = fn(&mut Rng) -> Plan;
 
 /// Every shape by its name.
-pub const SHAPES: [(&str, Shape); 13] = [
+pub const SHAPES: [(&str, Shape); 14] = [
     ("bare", bare),
     ("units", unit_periods),
     ("tiny", tiny),
@@ -40,5 +40,6 @@ pub const SHAPES: [(&str, Shape); 13] = [
     ("kept", kept_core),
     ("diamond", diamond),
     ("entries", most_entries),
+    ("lane", longest_lane),
     ("full", full),
 ];

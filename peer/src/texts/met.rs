@@ -48,11 +48,11 @@ const HIGHEST_ROW: u32 = most(PIECE) as u32 - 1;
 /// The highest first tick, in the longest cycle.
 const HIGHEST_TICK: u32 = 999_999;
 const ALL_LANES: usize = most(CORE) + most(LINK);
-/// Some lane has to have more entries than this.
-const ENTRIES: usize = 100;
-/// The answer, three entries for each window (idle before, switch, the rest
-/// at its end) and each piece (the rest before, switch, work), two for each
-/// frame (idle before, sending), and idle at each lane's end.
+/// Three entries for each window (idle before, switch, the rest at its end)
+/// and each piece (the rest before, switch, work), and idle at the lane's end.
+const MOST_ENTRIES: usize = 3 * (most(WINDOW) + most(PIECE)) + 1;
+/// The answer, as many entries for windows and pieces, two for each frame
+/// (idle before, sending), and idle at each lane's end.
 const MOST_LINES: usize = 1 + 3 * (most(WINDOW) + most(PIECE)) + 2 * most(FRAME) + ALL_LANES;
 
 /// The highest row count of a table.
@@ -98,8 +98,8 @@ impl Met {
             .chain(shown.map(|length| format!("a shown row of {length} digits")))
             .chain(ticks.map(|length| format!("a first tick of {length} digits")))
             .collect();
-        if self.most_entries <= ENTRIES {
-            missing.push(format!("a lane with more than {ENTRIES} entries"));
+        if self.most_entries < MOST_ENTRIES {
+            missing.push(format!("a lane with {MOST_ENTRIES} entries"));
         }
         if self.most_lanes < ALL_LANES {
             missing.push(format!("a text with {ALL_LANES} lanes"));
