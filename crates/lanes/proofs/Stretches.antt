@@ -1,5 +1,5 @@
 -- What the rows found show: a stretch of a piece, a window, a frame or nothing is what the lane shows.
-use Prim.Native.Nat.{ℕ, _+_, _-_, _≤_, _<_, min}
+use Prim.Native.Nat.{ℕ, _-_, _≤_, _<_, min}
 use mathlib.Core.Path.{_≡_, refl, sym, _∙_}
 use mathlib.Core.Bool.{Bool, true, false, cond}
 use mathlib.Core.List.{List}
@@ -7,12 +7,10 @@ use native.Mathlib.Omega.{arith}
 use lib.Dec.{ltb}
 use Rattle.plan.specs.declared.Table.the-variants.{Cores}
 use Rattle.plan.specs.declared.Found.{Found}
-use Rattle.plan.specs.declared.Found.the-variants.{At, Nothing}
-use Rattle.plan.specs.Image.{rows, cycleTicks, window}
-use Rattle.plan.specs.Questions.{charge}
+use Rattle.plan.specs.Image.{rows, cycleTicks}
 use Rattle.plan.specs.Dispatch.{show, pieceAt, windowAt, frameAt, onCore, onLink, shownAt}
 use Rattle.plan.proofs.Facts.{Facts}
-use Rattle.plan.proofs.Shows.{core-piece, core-lane, link-lane}
+use Rattle.plan.proofs.Showing.{core-piece, core-window, core-idle, core-lane, link-frame, link-idle, link-lane}
 use Rattle.places.specs.declared.Occupant.the-variants.{Piece, Window, Frame}
 use Rattle.places.specs.Places.{tableFor, placeOf, fromOf, toOf}
 use Rattle.lanes.specs.Taken.{covers, takenBy, TakenFrom, FreeFrom}
@@ -48,29 +46,12 @@ module _ (s : List ℕ) (c t : ℕ) where
   unfolding takenBy covers tableFor placeOf fromOf toOf frameAt
   frame-at x e = e
 
-  core-window : (x w : ℕ) → pieceAt s c x ≡ Nothing → windowAt s c x ≡ At w
-      → onCore s c x ≡ cond (ltb x (window s w .start + charge s w)) (show 1 w) (show 2 w)
-  unfolding onCore
-  core-window x w e q = rw (e, q, onCore) refl
-
-  core-idle : (x : ℕ) → pieceAt s c x ≡ Nothing → windowAt s c x ≡ Nothing → onCore s c x ≡ show 0 0
-  unfolding onCore
-  core-idle x e q = rw (e, q, onCore) refl
-
-  link-frame : (x i : ℕ) → frameAt s c x ≡ At i → onLink s c x ≡ show 5 i
-  unfolding onLink
-  link-frame x i e = rw (e, onLink) refl
-
-  link-idle : (x : ℕ) → frameAt s c x ≡ Nothing → onLink s c x ≡ show 0 0
-  unfolding onLink
-  link-idle x e = rw (e, onLink) refl
-
   pub piece-shows : Facts s → (i : ℕ) → TakenFrom s Piece c t i → Shows (onCore s c) t (cycleTicks s) (pieceStretch s i)
   unfolding toOf stretchAt pieceStretch
   piece-shows f i h =
       record {
         after = h .after;
-        ahead = record { within = h .within; shows = λ x lo hi. core-piece s f c x i (piece-at x (h .only x lo hi)) };
+        ahead = record { within = h .within; shows = λ x lo hi. core-piece s c x i (piece-at x (h .only x lo hi)) };
       }
 
   pub window-shows : (w next : ℕ) → FreeFrom s Piece c t next → TakenFrom s Window c t w → Shows (onCore s c) t (cycleTicks s) (windowStretch s w next)
@@ -81,7 +62,7 @@ module _ (s : List ℕ) (c t : ℕ) where
         ahead =
             record {
               within = omega (arith, h .within);
-              shows = λ x lo hi. core-window x w (piece-at x (g .none x lo (omega arith))) (window-at x (h .only x lo (omega arith)));
+              shows = λ x lo hi. core-window s c x w (piece-at x (g .none x lo (omega arith))) (window-at x (h .only x lo (omega arith)));
             };
       }
 
@@ -94,7 +75,7 @@ module _ (s : List ℕ) (c t : ℕ) where
             record {
               within = omega (arith, h .within);
               shows = λ x lo hi.
-                  core-idle x (piece-at x (g .none x lo (omega arith))) (window-at x (h .none x lo (omega arith))) ∙ sym (idle-shows (min free next) x);
+                  core-idle s c x (piece-at x (g .none x lo (omega arith))) (window-at x (h .none x lo (omega arith))) ∙ sym (idle-shows (min free next) x);
             };
       }
 
@@ -103,7 +84,7 @@ module _ (s : List ℕ) (c t : ℕ) where
   frame-sends i h =
       record {
         after = h .after;
-        ahead = record { within = h .within; shows = λ x lo hi. link-frame x i (frame-at x (h .only x lo hi)) ∙ sym (frame-shows s i x) };
+        ahead = record { within = h .within; shows = λ x lo hi. link-frame s c x i (frame-at x (h .only x lo hi)) ∙ sym (frame-shows s i x) };
       }
 
   pub link-idles : (free : ℕ) → FreeFrom s Frame c t free → Shows (onLink s c) t (cycleTicks s) (idleStretch free)
@@ -111,7 +92,7 @@ module _ (s : List ℕ) (c t : ℕ) where
   link-idles free h =
       record {
         after = h .after;
-        ahead = record { within = h .within; shows = λ x lo hi. link-idle x (frame-at x (h .none x lo hi)) ∙ sym (idle-shows free x) };
+        ahead = record { within = h .within; shows = λ x lo hi. link-idle s c x (frame-at x (h .none x lo hi)) ∙ sym (idle-shows free x) };
       }
 
 -- ---- lanes
@@ -121,12 +102,12 @@ module _ (s : List ℕ) (f : Facts s) (lane t : ℕ) (r : Stretch) where
   core-shows l h =
       record {
         after = h .after;
-        ahead = record { within = h .ahead .within; shows = λ x lo hi. core-lane s f x l ∙ h .ahead .shows x lo hi };
+        ahead = record { within = h .ahead .within; shows = λ x lo hi. core-lane s x l ∙ h .ahead .shows x lo hi };
       }
 
   pub link-shows : rows s Cores ≤ lane → Shows (onLink s (lane - rows s Cores)) t (cycleTicks s) r → Shows (shownAt s lane) t (cycleTicks s) r
   link-shows l h =
       record {
         after = h .after;
-        ahead = record { within = h .ahead .within; shows = λ x lo hi. link-lane s f {l = lane} x l ∙ h .ahead .shows x lo hi };
+        ahead = record { within = h .ahead .within; shows = λ x lo hi. link-lane s {l = lane} x l ∙ h .ahead .shows x lo hi };
       }

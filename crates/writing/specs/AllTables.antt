@@ -12,6 +12,7 @@ use Rattle.plan.specs.Runs.{Ready}
 use Rattle.plan.specs.Boundary.{bytesOf, wordsOf, answerNumber}
 
 module _ (image : List ℕ) where
+  -- those of all lanes
   unfoldable pub allTables : List ℕ
   allTables = tablesBelow image (lanes image)
 
