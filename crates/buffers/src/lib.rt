@@ -1,21 +1,22 @@
 // Questions 22 to 24 (paper 01, "The questions"): buffers and their holds.
 ghost use mathlib.Core.Path.{_≡_};
-ghost use Prim.Native.Nat.{_-_, _<_, _≤_};
+ghost use Prim.Native.Nat.{_<_};
 ghost use Rattle.plan.specs.declared.Table.the-variants.{Buffers};
 ghost use Rattle.plan.specs.Image.{rows, buffer};
 ghost use Rattle.plan.specs.Questions.{jobs, bufferEnds, readerWaits, sameBuffer, holdApart, holdClear};
 ghost use Rattle.plan.specs.Questions.{questionAt, pieceQuestions, bufferQuestions, answerTo};
-ghost use Rattle.plan.specs.Held.{Sound, Passed, refusing};
+ghost use Rattle.plan.specs.Held.{Sound, Passed, Listed, refusing};
 ghost use Rattle.jobs.specs.Times.{Timed};
 ghost use Rattle.buffers.specs.Holds.{waits, holdOf, sideOf, holdsApart};
 use jobs::first_start;
 use jobs::last_end;
 use plan::Answer;
+use plan::Asked;
 use plan::Found;
 use plan::Table;
 use tables::buffer_at;
+use tables::refusal;
 use tables::rows_of;
-use tables::shape_of;
 use tables::task_at;
 use terms::jobs_of;
 use terms::node_of;
@@ -164,29 +165,60 @@ fn hold_clear(image: &[u8], times: &[u32], row: u32) -> bool
     true
 }
 
-// Does a row pass question 22, 23 or 24?
-fn passes(image: &[u8], times: &[u32], number: u32, row: u32) -> bool
-    requires { ⌜ Sound (now image) × (Passed (pieceQuestions (now image)) 7 × Timed (now image) (now times)) ⌝ }
-    requires { ⌜ ((22 ≤ number) × (number ≤ 24)) × (Passed (bufferQuestions (now image)) (number - 22) × (row < rows (now image) Buffers)) ⌝ }
-    ensures { λ r. ⌜ r ≡ questionAt (bufferQuestions (now (image .entry))) (number - 22) .ok row ⌝ }
+// The questions, by their place in the list.
+const BUFFER_ENDS: u32 = 0;
+
+const READER_WAITS: u32 = 1;
+
+const HOLD_CLEAR: u32 = 2;
+
+// How many there are.
+const QUESTIONS: u32 = 3;
+
+// The list: each question's number and table, in the order asked.
+fn question_at(place: u32) -> Asked
+    requires { ⌜ place < 3 ⌝ }
+    ensures { λ r. ⌜ Listed bufferQuestions place r ⌝ }
 {
-    match number {
-        22 => buffer_ends(image, row),
-        23 => reader_waits(image, times, row),
+    match place {
+        BUFFER_ENDS => Asked {
+            number: 22,
+            table: Table::Buffers,
+        },
+        READER_WAITS => Asked {
+            number: 23,
+            table: Table::Buffers,
+        },
+        _ => Asked {
+            number: 24,
+            table: Table::Buffers,
+        },
+    }
+}
+
+// Does a row pass question 22, 23 or 24?
+fn passes(image: &[u8], times: &[u32], place: u32, row: u32) -> bool
+    requires { ⌜ Sound (now image) × (Passed (pieceQuestions (now image)) 7 × Timed (now image) (now times)) ⌝ }
+    requires { ⌜ (place < 3) × (Passed (bufferQuestions (now image)) place × (row < rows (now image) Buffers)) ⌝ }
+    ensures { λ r. ⌜ r ≡ questionAt (bufferQuestions (now (image .entry))) place .ok row ⌝ }
+{
+    match place {
+        BUFFER_ENDS => buffer_ends(image, row),
+        READER_WAITS => reader_waits(image, times, row),
         _ => hold_clear(image, times, row),
     }
 }
 
 // The lowest row that says no.
-fn first_no(image: &[u8], times: &[u32], number: u32) -> Found
+fn first_no(image: &[u8], times: &[u32], place: u32) -> Found
     requires { ⌜ Sound (now image) × (Passed (pieceQuestions (now image)) 7 × Timed (now image) (now times)) ⌝ }
-    requires { ⌜ ((22 ≤ number) × (number ≤ 24)) × Passed (bufferQuestions (now image)) (number - 22) ⌝ }
-    ensures { λ r. ⌜ r ≡ refusing (questionAt (bufferQuestions (now (image .entry))) (number - 22)) ⌝ }
+    requires { ⌜ (place < 3) × Passed (bufferQuestions (now image)) place ⌝ }
+    ensures { λ r. ⌜ r ≡ refusing (questionAt (bufferQuestions (now (image .entry))) place) ⌝ }
 {
     let rows = rows_of(image, Table::Buffers);
     let mut row: u32 = 0;
     while row < rows {
-        if !passes(image, times, number, row) {
+        if !passes(image, times, place, row) {
             return Found::At(row);
         }
         row += 1;
@@ -199,19 +231,15 @@ pub fn ask(image: &[u8], times: &[u32]) -> Answer
     requires { ⌜ Sound (now image) × (Passed (pieceQuestions (now image)) 7 × Timed (now image) (now times)) ⌝ }
     ensures { λ r. ⌜ r ≡ answerTo (bufferQuestions (now (image .entry))) ⌝ }
 {
-    let mut number: u32 = 22;
-    while number <= 24 {
-        match first_no(image, times, number) {
+    let mut place: u32 = 0;
+    while place < QUESTIONS {
+        match first_no(image, times, place) {
             Found::At(row) => {
-                return Answer {
-                    number,
-                    table: shape_of(Table::Buffers).number,
-                    row,
-                };
+                return refusal(question_at(place), row);
             }
             Found::Nothing => {}
         }
-        number += 1;
+        place += 1;
     }
     plan::accepted()
 }

@@ -15,7 +15,7 @@ pub fn lane_count(image: &[u8]) -> u32
     rows_of(image, Table::Cores) + rows_of(image, Table::Links)
 }
 
-// Builds a lane's table: asks 1 to 24 and 29 to 32, then 25 and 26, and writes H, n and the entries from word 0 on. Later words, and all words
+// Builds a lane's table: asks the check's questions, then 25 and 26, and writes H, n and the entries from word 0 on. Later words, and all words
 // after a refusal, stay as they are.
 pub fn build(image: &[u8], lane: u32, words: &mut [u32]) -> Answer
     ensures { λ r. ⌜ Filled (now (image .entry)) lane (now (words .entry)) r (now (words .exit)) ⌝ }
@@ -31,8 +31,8 @@ pub fn build(image: &[u8], lane: u32, words: &mut [u32]) -> Answer
             row: 0,
         };
     }
-    let mut charges = [0u32; 1024];
-    let mut index = [0u32; 3776];
+    let mut charges = [0u32; lanes::CHARGES];
+    let mut index = [0u32; lanes::INDEX];
     lanes::gather(image, &mut charges, &mut index);
     lanes::fill(image, &charges, &index, lane, words)
 }

@@ -12,7 +12,7 @@ use lib.Seq.{getD-set-other}
 use lib.Dec.{ltb, eqb}
 use borrow.Author.Tests.{lt-ltb, le-ltb, eq-eqb, ne-eqb, eqb-true}
 use Rattle.plan.specs.declared.Table.the-variants.{Tasks, Pieces, Streams, Buffers, Chains}
-use Rattle.plan.specs.Image.{rows, task, stream, buffer, chain, cycleTicks}
+use Rattle.plan.specs.Image.{rows, task, stream, buffer, chain, cycleTicks, mostTasks}
 use Rattle.plan.specs.Search.{any, leads}
 use Rattle.plan.specs.Questions.{joins, jobs, firstStart, pieceQuestions, streamQuestions, bufferQuestions, chainQuestions, questionAt, each, chainTasks, chainPath}
 use Rattle.plan.specs.Reading as R
@@ -26,10 +26,10 @@ use Rattle.plan.proofs.Answers.{accepted-holds}
 use Rattle.plan.proofs.Asking.{passed-all}
 use Rattle.plan.proofs.Messages.{joined-start, leads-jobs}
 use Rattle.tallies.proofs.Tallying.{smallest-top}
-use Rattle.chains.specs.Walks.{Asked, messages, senderOf, readerOf, leadsTo, sentOn, Marked}
+use Rattle.chains.specs.Walks.{BeforeChains, messages, senderOf, readerOf, leadsTo, sentOn, Marked}
 
 -- what 1 to 24 have shown, by name
-pub asked-facts : (s : List ℕ) → Asked s → Facts s
+pub asked-facts : (s : List ℕ) → BeforeChains s → Facts s
 unfolding pieceQuestions streamQuestions bufferQuestions
 asked-facts s h =
     facts-of s (h .sound)
@@ -95,10 +95,10 @@ module _ (s : List ℕ) where
   leads-there a b e = Path.there (rows s Tasks) (joins s) b (rows s Tasks) a e
 
   -- marks
-  pub none-marked : (b : ℕ) (marks : List ℕ) → length marks ≡ 256 → ((t : ℕ) → getD marks t 0 ≡ 0) → Marked s b marks
+  pub none-marked : (b : ℕ) (marks : List ℕ) → length marks ≡ mostTasks → ((t : ℕ) → getD marks t 0 ≡ 0) → Marked s b marks
   none-marked b marks e h = record { size = e; dead = λ t l n. absurd (n (h t)) }
 
-  pub one-marked : (b : ℕ) (marks : List ℕ) (a : ℕ) → a < 256 → Marked s b marks → leadsTo s a b ≡ false → Marked s b (set marks a 1)
+  pub one-marked : (b : ℕ) (marks : List ℕ) (a : ℕ) → a < mostTasks → Marked s b marks → leadsTo s a b ≡ false → Marked s b (set marks a 1)
   one-marked b marks a l h e = record { size = length-set marks a 1 ∙ h .size; dead = λ t k n. go t k n (decLt t a) (decLt a t) }
     where
       go : (t : ℕ) → t < rows s Tasks → getD (set marks a 1) t 0 ≢ 0 → Dec (t < a) → Dec (a < t) → leadsTo s t b ≡ false
@@ -137,15 +137,15 @@ module _ (s : List ℕ) where
       let k : 1 ≤ jobs s (senderOf s m) = some-job f (senderOf s m) h in
       omega (arith, joined-start s f (senderOf s m) (readerOf s m) 0 (by m l) k, start-most (readerOf s m))
 
-  pub fresh : (b : ℕ) → Marked s b (replicate 256 0)
-  fresh b = none-marked b (replicate 256 0) refl zero-at
+  pub fresh : (b : ℕ) → Marked s b (replicate mostTasks 0)
+  fresh b = none-marked b (replicate mostTasks 0) refl zero-at
     where
-      zero-at : (t : ℕ) → _≡_ {A = ℕ} (getD (replicate 256 0) t 0) 0
-      zero-at t = go (decLt t 256)
+      zero-at : (t : ℕ) → _≡_ {A = ℕ} (getD (replicate mostTasks 0) t 0) 0
+      zero-at t = go (decLt t mostTasks)
         where
-          go : Dec (t < 256) → _≡_ {A = ℕ} (getD (replicate 256 0) t 0) 0
-          go (yes l) = getD-replicate 256 t 0 0 l
-          go (no l) = List·getD-eq-default (replicate 256 0) 0 {n = t} (omega arith)
+          go : Dec (t < mostTasks) → _≡_ {A = ℕ} (getD (replicate mostTasks 0) t 0) 0
+          go (yes l) = getD-replicate mostTasks t 0 0 l
+          go (no l) = List·getD-eq-default (replicate mostTasks 0) 0 {n = t} (omega arith)
 
   -- 29 and 30 have passed
   pub tasks-of : Passed (chainQuestions s) 1 → (x : ℕ) → x < rows s Chains → R.ChainTasks s x
@@ -159,5 +159,5 @@ module _ (s : List ℕ) where
   pub passed-one : Passed (chainQuestions s) 2 → Passed (chainQuestions s) 1
   passed-one h j l = h j (omega arith)
 
-  pub last-job : Asked s → Passed (chainQuestions s) 2 → (x k : ℕ) → x < rows s Chains → k < jobs s (chain s x .first) → k < jobs s (chain s x .last)
+  pub last-job : BeforeChains s → Passed (chainQuestions s) 2 → (x k : ℕ) → x < rows s Chains → k < jobs s (chain s x .first) → k < jobs s (chain s x .last)
   last-job a h x k l j = subst (λ (u : ℕ). k < u) (leads-jobs s (asked-facts s a) (path-of h x l)) j

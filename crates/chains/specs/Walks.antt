@@ -7,13 +7,13 @@ use mathlib.Core.List.{List}
 use lib.ListN.{length, getD}
 use lib.Dec.{ltb, leb, eqb}
 use Rattle.plan.specs.declared.Table.the-variants.{Tasks, Streams, Buffers}
-use Rattle.plan.specs.Image.{rows, precision, stream, buffer, chain}
+use Rattle.plan.specs.Image.{rows, precision, stream, buffer, chain, mostTasks}
 use Rattle.plan.specs.Search.{leads}
 use Rattle.plan.specs.Questions.{joins, firstStart, lastEnd, chainLimit, pieceQuestions, streamQuestions, bufferQuestions}
 use Rattle.plan.specs.Held.{Sound, Passed}
 
 -- what questions 1 to 24 have shown
-pub record Asked (s : List ℕ) : Type 0 where
+pub record BeforeChains (s : List ℕ) : Type 0 where
   pub sound : Sound s
   pub pieces : Passed (pieceQuestions s) 7
   pub streams : Passed (streamQuestions s) 8
@@ -40,7 +40,7 @@ module _ (s : List ℕ) where
 
   -- a word for each task: those that are marked do not lead to task b
   pub record Marked (b : ℕ) (marks : List ℕ) : Type 0 where
-    pub size : length marks ≡ 256
+    pub size : length marks ≡ mostTasks
     pub dead : (t : ℕ) → t < rows s Tasks → getD marks t 0 ≢ 0 → leadsTo t b ≡ false
 
 -- 31, of a job

@@ -1,23 +1,25 @@
 // Questions 29 to 31 (paper 02, request 3): chains over several messages.
 ghost use mathlib.Core.Path.{_≡_};
-ghost use Prim.Native.Nat.{_-_, _<_, _≤_};
+ghost use Prim.Native.Nat.{_<_};
 ghost use Rattle.plan.specs.declared.Table.the-variants.{Tasks, Chains};
 ghost use Rattle.plan.specs.Image as Image;
 ghost use Rattle.plan.specs.Image.{rows};
 ghost use Rattle.plan.specs.Questions.{jobs, chainTasks, chainPath, chainLimit, chainInTime, chainQuestions, questionAt, answerTo};
-ghost use Rattle.plan.specs.Held.{Sound, Passed, refusing};
+ghost use Rattle.plan.specs.Held.{Sound, Passed, Listed, refusing};
 ghost use Rattle.jobs.specs.Times.{Timed};
-ghost use Rattle.chains.specs.Walks.{Asked, messages, senderOf, readerOf, leadsTo, sentOn, Marked, jobWithin};
+ghost use Rattle.chains.specs.Walks.{BeforeChains, messages, senderOf, readerOf, leadsTo, sentOn, Marked, jobWithin};
 use jobs::first_start;
 use jobs::last_end;
 use plan::Answer;
+use plan::Asked;
 use plan::Found;
 use plan::Table;
+use plan::Task;
 use tables::buffer_at;
 use tables::chain_at;
 use tables::precision_ticks;
+use tables::refusal;
 use tables::rows_of;
-use tables::shape_of;
 use tables::stream_at;
 use tables::task_at;
 use terms::jobs_of;
@@ -68,7 +70,7 @@ fn reader_of(image: &[u8], message: u32) -> u32
 
 // From a message to the task that reads it: if the task before sends it, does its reader lead to the goal?
 fn from_message(image: &[u8], marks: &mut [u32], task: u32, message: u32, goal: u32) -> bool
-    requires { ⌜ Asked (now image) × ((task < rows (now image) Tasks) × ((message < messages (now image)) × Marked (now image) goal (now marks))) ⌝ }
+    requires { ⌜ BeforeChains (now image) × ((task < rows (now image) Tasks) × ((message < messages (now image)) × Marked (now image) goal (now marks))) ⌝ }
     ensures { λ r. ⌜ (r ≡ sentOn (now (image .entry)) task goal message) × Marked (now (image .entry)) goal (now (marks .exit)) ⌝ }
 {
     if sender_of(image, message) != task {
@@ -80,7 +82,7 @@ fn from_message(image: &[u8], marks: &mut [u32], task: u32, message: u32, goal: 
 
 // From a task to the messages it sends: does one lead to the goal? A task that does not is marked, and not searched again.
 fn from_task(image: &[u8], marks: &mut [u32], task: u32, goal: u32) -> bool
-    requires { ⌜ Asked (now image) × ((task < rows (now image) Tasks) × Marked (now image) goal (now marks)) ⌝ }
+    requires { ⌜ BeforeChains (now image) × ((task < rows (now image) Tasks) × Marked (now image) goal (now marks)) ⌝ }
     ensures { λ r. ⌜ (r ≡ leadsTo (now (image .entry)) task goal) × Marked (now (image .entry)) goal (now (marks .exit)) ⌝ }
 {
     if task == goal {
@@ -103,11 +105,11 @@ fn from_task(image: &[u8], marks: &mut [u32], task: u32, goal: u32) -> bool
 
 // 30: do messages lead from the chain's first task to its last?
 fn chain_path(image: &[u8], chain: u32) -> bool
-    requires { ⌜ Asked (now image) × ((chain < rows (now image) Chains) × Passed (chainQuestions (now image)) 1) ⌝ }
+    requires { ⌜ BeforeChains (now image) × ((chain < rows (now image) Chains) × Passed (chainQuestions (now image)) 1) ⌝ }
     ensures { λ r. ⌜ r ≡ chainPath (now (image .entry)) chain ⌝ }
 {
     let c = chain_at(image, chain);
-    let mut marks = [0u32; 256];
+    let mut marks = [0u32; Task::MAX as usize];
     from_task(image, &mut marks, c.first, c.last)
 }
 
@@ -126,7 +128,7 @@ fn chain_limit(image: &[u8], chain: u32) -> u32
 
 // 31: does a job of the last task end within the limit, from the start of the first task's?
 fn job_within(image: &[u8], times: &[u32], chain: u32, job: u32) -> bool
-    requires { ⌜ Asked (now image) × Timed (now image) (now times) ⌝ }
+    requires { ⌜ BeforeChains (now image) × Timed (now image) (now times) ⌝ }
     requires { ⌜ (chain < rows (now image) Chains) × (Passed (chainQuestions (now image)) 2 × (job < jobs (now image) (Image.chain (now image) chain .first))) ⌝ }
     ensures { λ r. ⌜ r ≡ jobWithin (now (image .entry)) chain job ⌝ }
 {
@@ -138,7 +140,7 @@ fn job_within(image: &[u8], times: &[u32], chain: u32, job: u32) -> bool
 
 // 31: does every job?
 fn chain_in_time(image: &[u8], times: &[u32], chain: u32) -> bool
-    requires { ⌜ Asked (now image) × Timed (now image) (now times) ⌝ }
+    requires { ⌜ BeforeChains (now image) × Timed (now image) (now times) ⌝ }
     requires { ⌜ (chain < rows (now image) Chains) × Passed (chainQuestions (now image)) 2 ⌝ }
     ensures { λ r. ⌜ r ≡ chainInTime (now (image .entry)) chain ⌝ }
 {
@@ -153,29 +155,60 @@ fn chain_in_time(image: &[u8], times: &[u32], chain: u32) -> bool
     true
 }
 
-// Does a row pass question 29 to 31?
-fn passes(image: &[u8], times: &[u32], number: u32, row: u32) -> bool
-    requires { ⌜ Asked (now image) × Timed (now image) (now times) ⌝ }
-    requires { ⌜ ((29 ≤ number) × (number ≤ 31)) × (Passed (chainQuestions (now image)) (number - 29) × (row < rows (now image) Chains)) ⌝ }
-    ensures { λ r. ⌜ r ≡ questionAt (chainQuestions (now (image .entry))) (number - 29) .ok row ⌝ }
+// The questions, by their place in the list.
+const CHAIN_TASKS: u32 = 0;
+
+const CHAIN_PATH: u32 = 1;
+
+const CHAIN_IN_TIME: u32 = 2;
+
+// How many there are.
+const QUESTIONS: u32 = 3;
+
+// The list: each question's number and table, in the order asked.
+fn question_at(place: u32) -> Asked
+    requires { ⌜ place < 3 ⌝ }
+    ensures { λ r. ⌜ Listed chainQuestions place r ⌝ }
 {
-    match number {
-        29 => chain_tasks(image, row),
-        30 => chain_path(image, row),
+    match place {
+        CHAIN_TASKS => Asked {
+            number: 29,
+            table: Table::Chains,
+        },
+        CHAIN_PATH => Asked {
+            number: 30,
+            table: Table::Chains,
+        },
+        _ => Asked {
+            number: 31,
+            table: Table::Chains,
+        },
+    }
+}
+
+// Does a row pass question 29, 30 or 31?
+fn passes(image: &[u8], times: &[u32], place: u32, row: u32) -> bool
+    requires { ⌜ BeforeChains (now image) × Timed (now image) (now times) ⌝ }
+    requires { ⌜ (place < 3) × (Passed (chainQuestions (now image)) place × (row < rows (now image) Chains)) ⌝ }
+    ensures { λ r. ⌜ r ≡ questionAt (chainQuestions (now (image .entry))) place .ok row ⌝ }
+{
+    match place {
+        CHAIN_TASKS => chain_tasks(image, row),
+        CHAIN_PATH => chain_path(image, row),
         _ => chain_in_time(image, times, row),
     }
 }
 
 // The lowest row that says no.
-fn first_no(image: &[u8], times: &[u32], number: u32) -> Found
-    requires { ⌜ Asked (now image) × Timed (now image) (now times) ⌝ }
-    requires { ⌜ ((29 ≤ number) × (number ≤ 31)) × Passed (chainQuestions (now image)) (number - 29) ⌝ }
-    ensures { λ r. ⌜ r ≡ refusing (questionAt (chainQuestions (now (image .entry))) (number - 29)) ⌝ }
+fn first_no(image: &[u8], times: &[u32], place: u32) -> Found
+    requires { ⌜ BeforeChains (now image) × Timed (now image) (now times) ⌝ }
+    requires { ⌜ (place < 3) × Passed (chainQuestions (now image)) place ⌝ }
+    ensures { λ r. ⌜ r ≡ refusing (questionAt (chainQuestions (now (image .entry))) place) ⌝ }
 {
     let rows = rows_of(image, Table::Chains);
     let mut row: u32 = 0;
     while row < rows {
-        if !passes(image, times, number, row) {
+        if !passes(image, times, place, row) {
             return Found::At(row);
         }
         row += 1;
@@ -185,22 +218,18 @@ fn first_no(image: &[u8], times: &[u32], number: u32) -> Found
 
 // Questions 29 to 31, in this order.
 pub fn ask(image: &[u8], times: &[u32]) -> Answer
-    requires { ⌜ Asked (now image) × Timed (now image) (now times) ⌝ }
+    requires { ⌜ BeforeChains (now image) × Timed (now image) (now times) ⌝ }
     ensures { λ r. ⌜ r ≡ answerTo (chainQuestions (now (image .entry))) ⌝ }
 {
-    let mut number: u32 = 29;
-    while number <= 31 {
-        match first_no(image, times, number) {
+    let mut place: u32 = 0;
+    while place < QUESTIONS {
+        match first_no(image, times, place) {
             Found::At(row) => {
-                return Answer {
-                    number,
-                    table: shape_of(Table::Chains).number,
-                    row,
-                };
+                return refusal(question_at(place), row);
             }
             Found::Nothing => {}
         }
-        number += 1;
+        place += 1;
     }
     plan::accepted()
 }

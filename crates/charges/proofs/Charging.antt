@@ -7,12 +7,13 @@ use lib.ListN.{length, set, length-set}
 use Rattle.plan.specs.Questions.{charge}
 use Rattle.tallies.proofs.Tallying.{kept-none, kept-on}
 use Rattle.charges.specs.Charges.{ChargedTo}
+use Rattle.plan.specs.Image.{mostWindows}
 
 module _ (s : List ℕ) where
-  pub charged-none : (charges : List ℕ) → length charges ≡ 1024 → ChargedTo s charges 0
+  pub charged-none : (charges : List ℕ) → length charges ≡ mostWindows → ChargedTo s charges 0
   charged-none charges e = record { size = e; each = kept-none charges 0 _ (omega arith) }
 
-  pub charged-more : (charges : List ℕ) (n : ℕ) → n < 1024 → ChargedTo s charges n → ChargedTo s (set charges n (charge s n)) (n + 1)
+  pub charged-more : (charges : List ℕ) (n : ℕ) → n < mostWindows → ChargedTo s charges n → ChargedTo s (set charges n (charge s n)) (n + 1)
   charged-more charges n l h =
       record {
         size = length-set charges n (charge s n) ∙ h .size;

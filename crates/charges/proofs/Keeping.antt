@@ -11,7 +11,7 @@ use native.Mathlib.Omega.{arith}
 use lib.ListN.{length, getD, set}
 use borrow.Author.Tests.{eq-eqb, eqb-true, eqb-false, ne-eqb, lt-ltb, le-ltb, not-true}
 use Rattle.plan.specs.declared.Table.the-variants.{Cores, Vcpus, Windows}
-use Rattle.plan.specs.Image.{rows, shape, window, core}
+use Rattle.plan.specs.Image.{rows, shape, window, core, mostVcpus}
 use Rattle.plan.specs.Questions.{windowCore, windowEnd, keepsFrom, keepsCore, charge, orderWords}
 use Rattle.plan.specs.Reading.{Rises}
 use Rattle.plan.specs.Held.{Sound}
@@ -130,22 +130,22 @@ module _ (s : List ℕ) (h : Sound s) where
 
   -- ---- the words of the VCPUs
 
-  pub vcpu-most : (w : ℕ) → w < rows s Windows → window s w .vcpu < 64
+  pub vcpu-most : (w : ℕ) → w < rows s Windows → window s w .vcpu < mostVcpus
   unfolding shape
   vcpu-most w l = let c = h .inside .counts Vcpus in omega (arith, h .names Windows w l)
 
-  pub none-ended : (ends : List ℕ) → Kept ends 0 64 (λ _. 0) → Kept ends 0 64 (endsBefore s 0)
+  pub none-ended : (ends : List ℕ) → Kept ends 0 mostVcpus (λ _. 0) → Kept ends 0 mostVcpus (endsBefore s 0)
   unfolding endsBefore
-  none-ended ends = latest-fresh (λ u. window s u .vcpu) (windowEnd s) ends 64
+  none-ended ends = latest-fresh (λ u. window s u .vcpu) (windowEnd s) ends mostVcpus
 
-  module _ (ends : List ℕ) (w : ℕ) (l : w < rows s Windows) (k : Kept ends 0 64 (endsBefore s w)) where
+  module _ (ends : List ℕ) (w : ℕ) (l : w < rows s Windows) (k : Kept ends 0 mostVcpus (endsBefore s w)) where
     pub vcpu-inside : window s w .vcpu < length ends
     vcpu-inside = let m = k .room in omega (arith, vcpu-most w l)
 
     pub end-read : getD ends (window s w .vcpu) 0 ≡ endBefore s w
     unfolding endBefore
-    end-read = kept-at ends 64 (endsBefore s w) k (window s w .vcpu) (vcpu-most w l)
+    end-read = kept-at ends mostVcpus (endsBefore s w) k (window s w .vcpu) (vcpu-most w l)
 
-    pub ended-on : Kept (set ends (window s w .vcpu) (max (getD ends (window s w .vcpu) 0) (windowEnd s w))) 0 64 (endsBefore s (w + 1))
+    pub ended-on : Kept (set ends (window s w .vcpu) (max (getD ends (window s w .vcpu) 0) (windowEnd s w))) 0 mostVcpus (endsBefore s (w + 1))
     unfolding endsBefore
-    ended-on = latest-on (λ u. window s u .vcpu) (windowEnd s) ends 64 w k (vcpu-most w l)
+    ended-on = latest-on (λ u. window s u .vcpu) (windowEnd s) ends mostVcpus w k (vcpu-most w l)

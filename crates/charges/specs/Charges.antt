@@ -4,7 +4,7 @@ use mathlib.Core.Path.{_≡_}
 use mathlib.Core.List.{List}
 use lib.ListN.{length}
 use Rattle.plan.specs.declared.Table.the-variants.{Windows}
-use Rattle.plan.specs.Image.{rows, window}
+use Rattle.plan.specs.Image.{rows, window, mostWindows}
 use Rattle.plan.specs.Questions.{windowEnd, charge}
 use Rattle.tallies.specs.Tallies.{latest, Kept}
 
@@ -17,7 +17,7 @@ endBefore s w = endsBefore s w (window s w .vcpu)
 
 -- of the windows below n
 pub record ChargedTo (s charges : List ℕ) (n : ℕ) : Type 0 where
-  pub size : length charges ≡ 1024
+  pub size : length charges ≡ mostWindows
   pub each : Kept charges 0 n (charge s)
 
 abbrev pub Charged : List ℕ → List ℕ → Type 0

@@ -4,12 +4,14 @@ ghost use mathlib.Core.Path.{_≡_};
 ghost use Prim.Native.Nat.{_<_};
 ghost use lib.ListN.{length};
 ghost use Rattle.plan.specs.declared.Table.the-variants.{Windows};
-ghost use Rattle.plan.specs.Image.{rows};
+ghost use Rattle.plan.specs.Image.{rows, mostVcpus, mostWindows};
 ghost use Rattle.plan.specs.Held.{Sound};
 ghost use Rattle.plan.specs.Questions.{charge};
 ghost use Rattle.tallies.specs.Tallies.{Kept};
 ghost use Rattle.charges.specs.Charges.{endBefore, Charged};
 use plan::Table;
+use plan::Vcpu;
+use plan::Window;
 use tables::core_at;
 use tables::rows_of;
 use tables::window_at;
@@ -17,6 +19,9 @@ use tallies::raise;
 use terms::charge_of;
 use terms::window_core;
 use terms::window_end;
+
+// How many words the charges take: one for each window.
+pub const WORDS: usize = Window::MAX as usize;
 
 // A window's charge, by the latest end of the lower windows of its VCPU: a window that begins there keeps the core. Only where it is
 // empty or begins sooner, so that question 7 or 8 is going to refuse a window, are all others looked at.
@@ -44,7 +49,7 @@ fn charge_after(image: &[u8], window: u32, latest: u64) -> u32
 
 // The same of every window, with a word for each VCPU: the latest end of its windows so far, 0 at first.
 fn gather_after(image: &[u8], charges: &mut [u32], ends: &mut [u64])
-    requires { ⌜ Sound (now image) × ((length (now charges) ≡ 1024) × Kept (now ends) 0 64 (λ _. 0)) ⌝ }
+    requires { ⌜ Sound (now image) × ((length (now charges) ≡ mostWindows) × Kept (now ends) 0 mostVcpus (λ _. 0)) ⌝ }
     ensures { λ _. ⌜ Charged (now (image .entry)) (now (charges .exit)) ⌝ }
 {
     let windows = rows_of(image, Table::Windows);
@@ -59,10 +64,10 @@ fn gather_after(image: &[u8], charges: &mut [u32], ends: &mut [u64])
 
 // Finds the charge of every window.
 pub fn gather(image: &[u8], charges: &mut [u32])
-    requires { ⌜ Sound (now image) × (length (now charges) ≡ 1024) ⌝ }
+    requires { ⌜ Sound (now image) × (length (now charges) ≡ mostWindows) ⌝ }
     ensures { λ _. ⌜ Charged (now (image .entry)) (now (charges .exit)) ⌝ }
 {
-    let mut ends = [0u64; 64];
+    let mut ends = [0u64; Vcpu::MAX as usize];
     gather_after(image, charges, &mut ends);
 }
 

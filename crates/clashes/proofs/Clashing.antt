@@ -24,6 +24,7 @@ use Rattle.tallies.specs.Tallies.{latest, Kept}
 use Rattle.tallies.proofs.Tallying.{kept-at}
 use Rattle.tallies.proofs.Latest.{latest-fresh, latest-on, clear-latest}
 use Rattle.clashes.specs.Clashes.{clearOf, Lasting}
+use Rattle.places.specs.Index.{mostPlaces}
 
 module _ (s : List ℕ) (h : Sound s) (o : Occupant) where
   abbrev interval : ℕ → Interval
@@ -43,7 +44,7 @@ module _ (s : List ℕ) (h : Sound s) (o : Occupant) where
   rise Window = windows-rise s h
   rise Frame = frames-rise s h
 
-  place-most : (o : Occupant) (r : ℕ) → r < rows s (tableFor o) → placeOf s o r < 64
+  place-most : (o : Occupant) (r : ℕ) → r < rows s (tableFor o) → placeOf s o r < mostPlaces
   unfolding tableFor placeOf windowCore pieceCore coreOf shape
   place-most Piece r l = let c = h .inside .counts Cores in omega (arith, h .names Vcpus _ (h .names Tasks _ (h .names Pieces r l)))
   place-most Window r l = let c = h .inside .counts Cores in omega (arith, h .names Vcpus _ (h .names Windows r l))
@@ -52,17 +53,17 @@ module _ (s : List ℕ) (h : Sound s) (o : Occupant) where
   abbrev ends-before : ℕ → ℕ → ℕ
   ends-before = latest (placeOf s o) (toOf s o)
 
-  pub none-before : (ends : List ℕ) → Kept ends 0 64 (λ _. 0) → Kept ends 0 64 (ends-before 0)
-  none-before ends = latest-fresh (placeOf s o) (toOf s o) ends 64
+  pub none-before : (ends : List ℕ) → Kept ends 0 mostPlaces (λ _. 0) → Kept ends 0 mostPlaces (ends-before 0)
+  none-before ends = latest-fresh (placeOf s o) (toOf s o) ends mostPlaces
 
-  module _ (long : Lasting s o) (ends : List ℕ) (r : ℕ) (l : r < rows s (tableFor o)) (k : Kept ends 0 64 (ends-before r)) where
+  module _ (long : Lasting s o) (ends : List ℕ) (r : ℕ) (l : r < rows s (tableFor o)) (k : Kept ends 0 mostPlaces (ends-before r)) where
     pub place-inside : placeOf s o r < length ends
     place-inside = let m = k .room in omega (arith, place-most o r l)
 
     asked : clearOf s o r ≡ leb (getD ends (placeOf s o r) 0) (fromOf s o r)
     asked =
         clear-is o r ∙ clear-latest (placeOf s o) interval r (λ q d. rise o q r (omega arith) l) (long r l)
-        ∙ ap (λ (x : ℕ). leb x (fromOf s o r)) (sym (kept-at ends 64 (ends-before r) k (placeOf s o r) (place-most o r l)))
+        ∙ ap (λ (x : ℕ). leb x (fromOf s o r)) (sym (kept-at ends mostPlaces (ends-before r) k (placeOf s o r) (place-most o r l)))
 
     pub clash : firstNo r (clearOf s o) ≡ Nothing → fromOf s o r < getD ends (placeOf s o r) 0 → At r ≡ firstNo (rows s (tableFor o)) (clearOf s o)
     clash n d = sym (stops (clearOf s o) (rows s (tableFor o)) r n l (asked ∙ lt-leb _ _ d))
@@ -70,8 +71,8 @@ module _ (s : List ℕ) (h : Sound s) (o : Occupant) where
     pub clear-on : firstNo r (clearOf s o) ≡ Nothing → getD ends (placeOf s o r) 0 ≤ fromOf s o r → firstNo (r + 1) (clearOf s o) ≡ Nothing
     clear-on n d = rw add-one (turn-yes (clearOf s o) r n (asked ∙ le-leb _ _ d))
 
-    pub ends-on : Kept (set ends (placeOf s o r) (max (getD ends (placeOf s o r) 0) (toOf s o r))) 0 64 (ends-before (r + 1))
-    ends-on = latest-on (placeOf s o) (toOf s o) ends 64 r k (place-most o r l)
+    pub ends-on : Kept (set ends (placeOf s o r) (max (getD ends (placeOf s o r) 0) (toOf s o r))) 0 mostPlaces (ends-before (r + 1))
+    ends-on = latest-on (placeOf s o) (toOf s o) ends mostPlaces r k (place-most o r l)
 
 -- 7 passed: windows take up ticks; 10 passed: pieces do
 pub windows-last : (s : List ℕ) (n : ℕ) → Passed (pieceQuestions s) n → 1 ≤ n → Lasting s Window

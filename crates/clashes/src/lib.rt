@@ -7,6 +7,7 @@ ghost use Rattle.plan.specs.Held.{Sound};
 ghost use Rattle.places.specs.Places.{tableFor};
 ghost use Rattle.tallies.specs.Tallies.{Kept};
 ghost use Rattle.clashes.specs.Clashes.{clearOf, Lasting};
+ghost use Rattle.places.specs.Index.{mostPlaces};
 use places::Occupant;
 use places::from_of;
 use places::place_of;
@@ -18,7 +19,7 @@ use tallies::raise;
 
 // The same, with a word for each place: the latest end there, 0 at first.
 fn clash_after(image: &[u8], occupant: Occupant, ends: &mut [u64]) -> Found
-    requires { ⌜ Sound (now image) × (Lasting (now image) occupant × Kept (now ends) 0 64 (λ _. 0)) ⌝ }
+    requires { ⌜ Sound (now image) × (Lasting (now image) occupant × Kept (now ends) 0 mostPlaces (λ _. 0)) ⌝ }
     ensures { λ r. ⌜ r ≡ firstNo (rows (now (image .entry)) (tableFor occupant)) (clearOf (now (image .entry)) occupant) ⌝ }
 {
     let rows = rows_of(image, table_for(occupant));
@@ -39,6 +40,6 @@ pub fn first_clash(image: &[u8], occupant: Occupant) -> Found
     requires { ⌜ Sound (now image) × Lasting (now image) occupant ⌝ }
     ensures { λ r. ⌜ r ≡ firstNo (rows (now (image .entry)) (tableFor occupant)) (clearOf (now (image .entry)) occupant) ⌝ }
 {
-    let mut ends = [0u64; 64];
+    let mut ends = [0u64; places::PLACES];
     clash_after(image, occupant, &mut ends)
 }

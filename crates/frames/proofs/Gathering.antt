@@ -8,65 +8,65 @@ use native.Mathlib.Omega.{arith}
 use lib.Dec.{eqb}
 use lib.ListN.{length, getD, set, length-set, replicate, length-replicate, getD-replicate}
 use Rattle.plan.specs.declared.Table.the-variants.{Streams, Frames}
-use Rattle.plan.specs.Image.{rows, stream}
+use Rattle.plan.specs.Image.{rows, stream, mostStreams, mostFrames}
 use Rattle.plan.specs.Search.{sum, count}
 use Rattle.plan.specs.Held.{Sound}
 use Rattle.plan.proofs.Searching.{sum-turn, count-most}
 use Rattle.tallies.specs.Tallies.{tally, Kept}
 use Rattle.tallies.proofs.Tallying.{kept-apart, kept-as, kept-at, kept-none, kept-on, tally-none, tally-at, tally-other, tally-next, tally-skip, tally-sum}
 use Rattle.frames.proofs.Placing.{frames-most, streams-most}
-use Rattle.frames.specs.Index.{span, place, framePlace, begins, manyAt, lastAt, Taken, takenAt}
+use Rattle.frames.specs.Index.{span, place, framePlace, begins, manyAt, lastAt, Taken, takenAt, countsAt, lastsAt, frameWords}
 
 -- the first n streams have their places, and no frame is taken in yet
 pub record Begun (s index : List ℕ) (n : ℕ) : Type 0 where
-  pub size : length index ≡ 1088
+  pub size : length index ≡ frameWords
   pub starts : Kept index 0 n (begins s)
-  pub counts : Kept index 64 512 (λ _. 0)
-  pub lasts : Kept index 576 512 (λ _. 0)
+  pub counts : Kept index countsAt mostFrames (λ _. 0)
+  pub lasts : Kept index lastsAt mostFrames (λ _. 0)
 
 -- ---- the streams' places
 
 module _ (s : List ℕ) where
-  fresh-words : (base n : ℕ) → base + n ≤ 1088 → Kept (replicate 1088 0) base n (λ _. 0)
-  fresh-words base n l = record { room = rw length-replicate l; each = λ p m. getD-replicate 1088 (base + p) 0 0 (omega arith) }
+  fresh-words : (base n : ℕ) → base + n ≤ frameWords → Kept (replicate frameWords 0) base n (λ _. 0)
+  fresh-words base n l = record { room = rw length-replicate l; each = λ p m. getD-replicate frameWords (base + p) 0 0 (omega arith) }
 
-  pub begun-none : Begun s (replicate 1088 0) 0
+  pub begun-none : Begun s (replicate frameWords 0) 0
   begun-none =
       record {
-        size = let z : ℕ = 0 in length-replicate 1088 z;
-        starts = kept-none (replicate 1088 0) 0 (begins s) (omega arith);
-        counts = fresh-words 64 512 (omega arith);
-        lasts = fresh-words 576 512 (omega arith);
+        size = let z : ℕ = 0 in length-replicate frameWords z;
+        starts = kept-none (replicate frameWords 0) 0 (begins s) (omega arith);
+        counts = fresh-words countsAt mostFrames (omega arith);
+        lasts = fresh-words lastsAt mostFrames (omega arith);
       }
 
   -- one stream more
-  pub begun-more : (index : List ℕ) (n x : ℕ) → n < 64 → x ≡ begins s n → Begun s index n → Begun s (set index n x) (n + 1)
+  pub begun-more : (index : List ℕ) (n x : ℕ) → n < mostStreams → x ≡ begins s n → Begun s index n → Begun s (set index n x) (n + 1)
   begun-more index n x l e h =
       record {
         size = simp length-set (h .size);
         starts = kept-on index n (begins s) (h .starts) (omega (arith, h .size)) x e;
-        counts = kept-apart index 64 512 (λ _. 0) (h .counts) n x (inl l);
-        lasts = kept-apart index 576 512 (λ _. 0) (h .lasts) n x (inl (omega arith));
+        counts = kept-apart index countsAt mostFrames (λ _. 0) (h .counts) n x (inl l);
+        lasts = kept-apart index lastsAt mostFrames (λ _. 0) (h .lasts) n x (inl (omega arith));
       }
 
   pub begins-none : 0 ≡ begins s 0
   unfolding begins sum
   begins-none = refl
 
-  pub begins-more : (n x : ℕ) → x ≡ begins s n → min 512 (x + span s n) ≡ begins s (n + 1)
+  pub begins-more : (n x : ℕ) → x ≡ begins s n → min mostFrames (x + span s n) ≡ begins s (n + 1)
   unfolding begins
   begins-more n x e = let t = sum-turn (span s) n in omega arith
 
-  pub begins-most : (m : ℕ) → begins s m ≤ 512
+  pub begins-most : (m : ℕ) → begins s m ≤ mostFrames
   unfolding begins
   begins-most m = omega arith
 
   -- a place from the word that is kept
-  pub word-most : (index : List ℕ) (n m : ℕ) → Kept index 0 n (begins s) → m < n → getD index m 0 ≤ 512
+  pub word-most : (index : List ℕ) (n m : ℕ) → Kept index 0 n (begins s) → m < n → getD index m 0 ≤ mostFrames
   word-most index n m h l = omega (arith, kept-at index n (begins s) h m l, begins-most m)
 
   pub word-place : (index : List ℕ) (n m k h : ℕ) → Kept index 0 n (begins s) → m < n
-      → min 512 (getD index m 0 + (k * stream s m .hops + h)) ≡ min 512 (place s m k h)
+      → min mostFrames (getD index m 0 + (k * stream s m .hops + h)) ≡ min mostFrames (place s m k h)
   unfolding begins place
   word-place index n m k h d l = omega (arith, kept-at index n (begins s) d m l)
 
@@ -77,8 +77,8 @@ module _ (s : List ℕ) where
       record {
         size = h .size;
         starts = h .starts;
-        counts = kept-as index 64 512 (λ _. 0) (h .counts) _ (λ q m. tally-none _+_ 0 (framePlace s) (λ _. 1) q);
-        lasts = kept-as index 576 512 (λ _. 0) (h .lasts) _ (λ q m. tally-none (λ _ f. f) 0 (framePlace s) (λ f. f) q);
+        counts = kept-as index countsAt mostFrames (λ _. 0) (h .counts) _ (λ q m. tally-none _+_ 0 (framePlace s) (λ _. 1) q);
+        lasts = kept-as index lastsAt mostFrames (λ _. 0) (h .lasts) _ (λ q m. tally-none (λ _ f. f) 0 (framePlace s) (λ f. f) q);
       }
 
   -- ---- a frame
@@ -89,47 +89,47 @@ module _ (s : List ℕ) where
 
   module _ (index : List ℕ) (n : ℕ) (sound : Sound s) (h : Taken s index n) where
     -- a count has room for one more
-    pub few-there : (p : ℕ) → n < rows s Frames → p < 512 → getD index (64 + p) 0 ≤ 512
+    pub few-there : (p : ℕ) → n < rows s Frames → p < mostFrames → getD index (countsAt + p) 0 ≤ mostFrames
     few-there p l m = omega (arith, h .counts .each p m, many-most n p, frames-most s sound)
 
-    pub taken-in : framePlace s n < 512 → Taken s (takenAt index (framePlace s n) n) (n + 1)
+    pub taken-in : framePlace s n < mostFrames → Taken s (takenAt index (framePlace s n) n) (n + 1)
     unfolding takenAt manyAt lastAt
     taken-in l =
         let at = framePlace s n in
-        let x = getD index (64 + at) 0 + 1 in
-        let inner = set index (64 + at) x in
+        let x = getD index (countsAt + at) 0 + 1 in
+        let inner = set index (countsAt + at) x in
         let far = streams-most s sound in
         record {
           size = simp length-set (h .size);
           starts =
               kept-apart inner 0 (rows s Streams) (begins s)
-              (kept-apart index 0 (rows s Streams) (begins s) (h .starts) (64 + at) x (inr (omega arith)))
-              (576 + at) n (inr (omega arith));
+              (kept-apart index 0 (rows s Streams) (begins s) (h .starts) (countsAt + at) x (inr (omega arith)))
+              (lastsAt + at) n (inr (omega arith));
           counts =
-              kept-apart inner 64 512 (tally _+_ 0 (framePlace s) (λ _. 1) (n + 1))
-              (tally-next _+_ 0 (framePlace s) (λ _. 1) index 64 512 n (h .counts) x l refl)
-              (576 + at) n (inr (omega arith));
+              kept-apart inner countsAt mostFrames (tally _+_ 0 (framePlace s) (λ _. 1) (n + 1))
+              (tally-next _+_ 0 (framePlace s) (λ _. 1) index countsAt mostFrames n (h .counts) x l refl)
+              (lastsAt + at) n (inr (omega arith));
           lasts =
-              tally-next (λ _ f. f) 0 (framePlace s) (λ f. f) inner 576 512 n
-              (kept-apart index 576 512 (tally (λ _ f. f) 0 (framePlace s) (λ f. f) n) (h .lasts) (64 + at) x (inl (omega arith)))
+              tally-next (λ _ f. f) 0 (framePlace s) (λ f. f) inner lastsAt mostFrames n
+              (kept-apart index lastsAt mostFrames (tally (λ _ f. f) 0 (framePlace s) (λ f. f) n) (h .lasts) (countsAt + at) x (inl (omega arith)))
               n l refl;
         }
 
-    pub taken-past : 512 ≤ framePlace s n → Taken s index (n + 1)
+    pub taken-past : mostFrames ≤ framePlace s n → Taken s index (n + 1)
     unfolding manyAt lastAt
     taken-past l =
         record {
           size = h .size;
           starts = h .starts;
-          counts = tally-skip _+_ 0 (framePlace s) (λ _. 1) index 64 512 n (h .counts) l;
-          lasts = tally-skip (λ _ f. f) 0 (framePlace s) (λ f. f) index 576 512 n (h .lasts) l;
+          counts = tally-skip _+_ 0 (framePlace s) (λ _. 1) index countsAt mostFrames n (h .counts) l;
+          lasts = tally-skip (λ _ f. f) 0 (framePlace s) (λ f. f) index lastsAt mostFrames n (h .lasts) l;
         }
 
 -- a place below 512 is kept as it is
-pub capped-is : (p x : ℕ) → p ≡ min 512 x → p < 512 → p ≡ x
+pub capped-is : (p x : ℕ) → p ≡ min mostFrames x → p < mostFrames → p ≡ x
 capped-is p x e l = omega arith
 
-pub capped-past : (p x : ℕ) → p ≡ min 512 x → (p < 512 → ⊥) → 512 ≤ x
+pub capped-past : (p x : ℕ) → p ≡ min mostFrames x → (p < mostFrames → ⊥) → mostFrames ≤ x
 capped-past p x e l = omega arith
 
 -- the last row at a place is the only one where there is one

@@ -13,7 +13,7 @@ use borrow.Author.Tests.{eqb-true, lt-ltb, le-ltb}
 use Rattle.plan.specs.declared.Found.{Found}
 use Rattle.plan.specs.declared.Found.the-variants.{At, Nothing}
 use Rattle.plan.specs.declared.Table.the-variants.{Streams, Frames}
-use Rattle.plan.specs.Image.{rows, stream}
+use Rattle.plan.specs.Image.{rows, stream, mostFrames}
 use Rattle.plan.specs.Search.{firstNo, all, sum, count}
 use Rattle.plan.specs.Questions.{jobs, ofHop, eachJob, oneFrame, questionAt, each, streamQuestions}
 use Rattle.plan.specs.Held.{Sound, refusing}
@@ -92,17 +92,17 @@ module _ (s : List ℕ) where
 
   module _ (sound : Sound s) where
     -- there are no more filled places than frames
-    pub filled-most : (n : ℕ) → ((v : ℕ) → v < n → Filled v) → n ≤ 512
+    pub filled-most : (n : ℕ) → ((v : ℕ) → v < n → Filled v) → n ≤ mostFrames
     filled-most n h = let c = covered (framePlace s) (rows s Frames) n h in omega (arith, frames-most s sound)
 
     once-agrees : (m k h : ℕ) → Before m k h → onceAt s m k h ≡ once m k h
     unfolding onceAt
-    once-agrees m k h b = go (decLt (place s m k h) 512) (once m k h) refl
+    once-agrees m k h b = go (decLt (place s m k h) mostFrames) (once m k h) refl
       where
-        go : Dec (place s m k h < 512) → (x : Bool) → once m k h ≡ x → ltb (place s m k h) 512 && once m k h ≡ once m k h
-        go (yes l) x e = rw (lt-ltb (place s m k h) 512 l) refl
+        go : Dec (place s m k h < mostFrames) → (x : Bool) → once m k h ≡ x → ltb (place s m k h) mostFrames && once m k h ≡ once m k h
+        go (yes l) x e = rw (lt-ltb (place s m k h) mostFrames l) refl
         go (no l) true e = let w = filled-most (place s m k h + 1) (filled-to m k h b e) in absurd (omega arith)
-        go (no l) false e = rw (le-ltb (place s m k h) 512 (omega arith), e) refl
+        go (no l) false e = rw (le-ltb (place s m k h) mostFrames (omega arith), e) refl
 
     each-agrees : (m : ℕ) → AllYes (eachJob s (oneFrame s)) m → eachJob s (onceEach s) m ≡ eachJob s (oneFrame s) m
     unfolding eachJob onceEach oneFrame

@@ -9,7 +9,7 @@ use lib.Dec.{eqb}
 use borrow.Author.Tests.{eqb-true, eq-eqb}
 use Rattle.plan.specs.declared.Stream.{Stream}
 use Rattle.plan.specs.declared.Table.the-variants.{Streams, Frames}
-use Rattle.plan.specs.Image.{rows, stream, frame, cycleTicks, task, shape}
+use Rattle.plan.specs.Image.{rows, stream, frame, cycleTicks, task, shape, mostStreams, mostFrames}
 use Rattle.plan.specs.Search.{sum}
 use Rattle.plan.specs.Questions.{jobs, ofHop}
 use Rattle.plan.specs.Held.{Sound}
@@ -97,11 +97,11 @@ module _ (s : List ℕ) where
   unfolding framePlace
   place-frame m k h f e = let w = of-hop m k h f e in rw (w .0, w .1, w .2) refl
 
-  pub frames-most : Sound s → rows s Frames ≤ 512
+  pub frames-most : Sound s → rows s Frames ≤ mostFrames
   unfolding shape
   frames-most h = h .inside .counts Frames
 
-  pub streams-most : Sound s → rows s Streams ≤ 64
+  pub streams-most : Sound s → rows s Streams ≤ mostStreams
   unfolding shape
   streams-most h = h .inside .counts Streams
 
@@ -115,7 +115,7 @@ module _ (s : List ℕ) where
       omega (arith, r .3)
 
   -- a place is summed in 64 bits
-  pub place-fits : Sound s → (m : ℕ) → m < rows s Streams → (x : Stream) → x ≡ stream s m → (b k h : ℕ) → b ≤ 512 → k < 2 ^ 32 → h < 2 ^ 32
+  pub place-fits : Sound s → (m : ℕ) → m < rows s Streams → (x : Stream) → x ≡ stream s m → (b k h : ℕ) → b ≤ mostFrames → k < 2 ^ 32 → h < 2 ^ 32
       → b + (k * x .hops + h) < 2 ^ 64
   place-fits sound m l x e b k h lb lk lh =
       let r = sound .ranges Streams m l in

@@ -10,7 +10,7 @@ use borrow.Author.Tests.{eqb-true, eq-eqb, lt-ltb, le-ltb}
 use Rattle.plan.specs.declared.Found.{Found}
 use Rattle.plan.specs.declared.Found.the-variants.{At, Nothing}
 use Rattle.plan.specs.declared.Table.the-variants.{Streams, Frames}
-use Rattle.plan.specs.Image.{rows, stream, frame}
+use Rattle.plan.specs.Image.{rows, stream, frame, mostFrames}
 use Rattle.plan.specs.Search.{firstNo, first, sum, count}
 use Rattle.plan.specs.Questions.{ofHop, frameOf, streamQuestions}
 use Rattle.plan.specs.Held.{Passed}
@@ -19,7 +19,7 @@ use Rattle.plan.proofs.Tests.{One}
 use Rattle.plan.proofs.Shows.{bool-eq}
 use Rattle.plan.proofs.Passing.{frames-fit, one-frame}
 use Rattle.tallies.proofs.Tallying.{tally-sum}
-use Rattle.frames.specs.Index.{span, place, framePlace, manyAt, lastAt, Indexed, JobOf, Framed, onceAt}
+use Rattle.frames.specs.Index.{span, place, framePlace, manyAt, lastAt, Indexed, JobOf, Framed, onceAt, countsAt, lastsAt}
 use Rattle.frames.proofs.Placing.{HopOf, place-most, place-own, hop-at, hop-of, place-frame}
 use Rattle.frames.proofs.Gathering.{last-one, capped-is, capped-past}
 use Rattle.frames.proofs.Once.{filled-most}
@@ -41,21 +41,21 @@ module _ (s : List ℕ) where
           tally-sum (framePlace s) (λ _. 1) (place s m k h) (ofHop s m k h) (rows s Frames)
           (λ f l. bool-eq _ _ (λ e. frame-place f l (eqb-true _ _ e)) (λ e. eq-eqb _ _ (place-frame s m k h f e)))
 
-      module _ (index : List ℕ) (i : Indexed s index) (at : ℕ) (e : at ≡ min 512 (place s m k h)) where
-        pub has-one-kept : at < 512 → eqb (getD index (64 + at) 0) 1 ≡ onceAt s m k h
+      module _ (index : List ℕ) (i : Indexed s index) (at : ℕ) (e : at ≡ min mostFrames (place s m k h)) where
+        pub has-one-kept : at < mostFrames → eqb (getD index (countsAt + at) 0) 1 ≡ onceAt s m k h
         unfolding onceAt
         has-one-kept l =
             let q = capped-is at (place s m k h) e l in
             let w = i .counts .each at l ∙ ap (manyAt s (rows s Frames)) q ∙ many-are in
-            rw (w, lt-ltb (place s m k h) 512 (omega arith)) refl
+            rw (w, lt-ltb (place s m k h) mostFrames (omega arith)) refl
 
-        pub has-one-past : (at < 512 → ⊥) → false ≡ onceAt s m k h
+        pub has-one-past : (at < mostFrames → ⊥) → false ≡ onceAt s m k h
         unfolding onceAt
-        has-one-past l = rw (le-ltb (place s m k h) 512 (capped-past at (place s m k h) e l)) refl
+        has-one-past l = rw (le-ltb (place s m k h) mostFrames (capped-past at (place s m k h) e l)) refl
 
   module _ (p : Framed s) where
     -- every hop's place is kept
-    all-kept : sum (rows s Streams) (span s) ≤ 512
+    all-kept : sum (rows s Streams) (span s) ≤ mostFrames
     all-kept =
         filled-most s (p .sound) (sum (rows s Streams) (span s))
         (λ v l.
@@ -67,7 +67,7 @@ module _ (s : List ℕ) where
       is : HopOf s m k h
       is = record { job = j .job; hop = l }
 
-      kept-hop : place s m k h < 512
+      kept-hop : place s m k h < mostFrames
       kept-hop = omega (arith, place-most s m k h (rows s Streams) (j .row) is, all-kept)
 
       abbrev other : ℕ → Bool
@@ -99,9 +99,9 @@ module _ (s : List ℕ) where
           (λ g d e. the-one .2 g (d, frame-place 3 (p .passed) (omega arith) m k h is g d e))
           ∙ lowest-is
 
-      module _ (index : List ℕ) (i : Indexed s index) (at : ℕ) (e : at ≡ min 512 (place s m k h)) where
-        pub place-inside : at < 512
+      module _ (index : List ℕ) (i : Indexed s index) (at : ℕ) (e : at ≡ min mostFrames (place s m k h)) where
+        pub place-inside : at < mostFrames
         place-inside = omega (arith, kept-hop)
 
-        pub frame-read : getD index (576 + at) 0 ≡ frameOf s m k h
+        pub frame-read : getD index (lastsAt + at) 0 ≡ frameOf s m k h
         frame-read = i .lasts .each at place-inside ∙ ap (lastAt s (rows s Frames)) (capped-is at (place s m k h) e place-inside) ∙ last-is

@@ -4,28 +4,40 @@ ghost use mathlib.Core.Path.{_≡_};
 ghost use Prim.Native.Nat.{_+_, _<_, _≤_, min};
 ghost use lib.ListN.{length, getD, replicate};
 ghost use Rattle.plan.specs.declared.Table.the-variants.{Streams, Frames};
-ghost use Rattle.plan.specs.Image.{rows};
+ghost use Rattle.plan.specs.Image.{rows, mostFrames};
 ghost use Rattle.plan.specs.Image as Image;
 ghost use Rattle.plan.specs.Questions.{frameOf, eachJob, questionAt, streamQuestions};
 ghost use Rattle.plan.specs.Held.{Sound, Passed, refusing};
 ghost use Rattle.tallies.specs.Tallies.{Kept};
-ghost use Rattle.frames.specs.Index.{span, place, begins, Taken, Indexed, takenAt, JobOf, onceAt, onceEach, Framed};
+ghost use Rattle.frames.specs.Index.{span, place, begins, Taken, Indexed, takenAt, JobOf, onceAt, onceEach, Framed, countsAt, frameWords};
 use plan::Found;
+use plan::Frame;
+use plan::Stream;
 use plan::Table;
 use tables::frame_at;
 use tables::rows_of;
 use tables::stream_at;
 use terms::jobs_of;
 
-const COUNTS: usize = 64;
+const COUNTS: usize = Stream::MAX as usize;
 
-const LASTS: usize = 576;
+const LASTS: usize = COUNTS + PLACES;
 
-// A place as it is kept: at most 512.
+// How many words the index takes.
+pub const WORDS: usize = LASTS + PLACES;
+
+// How many places are kept.
+const PLACES: usize = Frame::MAX as usize;
+
+// A place as it is kept.
 fn capped(place: u64) -> u32
-    ensures { λ r. ⌜ r ≡ min 512 place ⌝ }
+    ensures { λ r. ⌜ r ≡ min mostFrames place ⌝ }
 {
-    if place < 512 { place as u32 } else { 512 }
+    if place < PLACES as u64 {
+        place as u32
+    } else {
+        Frame::MAX
+    }
 }
 
 // How many places a stream has: one for each hop of each of its jobs.
@@ -39,7 +51,7 @@ fn span_of(image: &[u8], stream: u32) -> u32
 
 // Writes the place of each stream's first hop.
 fn place_streams(image: &[u8], index: &mut [u32])
-    requires { ⌜ Sound (now image) × (now index ≡ replicate 1088 0) ⌝ }
+    requires { ⌜ Sound (now image) × (now index ≡ replicate frameWords 0) ⌝ }
     ensures { λ _. ⌜ Taken (now (image .entry)) (now (index .exit)) 0 ⌝ }
 {
     let streams = rows_of(image, Table::Streams);
@@ -56,7 +68,7 @@ fn place_streams(image: &[u8], index: &mut [u32])
 fn place_of(image: &[u8], index: &[u32], stream: u32, job: u32, hop: u32) -> u32
     requires { ⌜ Sound (now image) × (stream < rows (now image) Streams) ⌝ }
     requires { ⌜ Kept (now index) 0 (rows (now image) Streams) (begins (now image)) ⌝ }
-    ensures { λ r. ⌜ r ≡ min 512 (place (now (image .entry)) stream job hop) ⌝ }
+    ensures { λ r. ⌜ r ≡ min mostFrames (place (now (image .entry)) stream job hop) ⌝ }
 {
     let hops = stream_at(image, stream).hops;
     let offset = job as u64 * hops as u64 + hop as u64;
@@ -65,7 +77,7 @@ fn place_of(image: &[u8], index: &[u32], stream: u32, job: u32, hop: u32) -> u32
 
 // Takes a frame in at a place.
 fn take_at(index: &mut [u32], place: usize, frame: u32)
-    requires { ⌜ (length (now index) ≡ 1088) × ((place < 512) × (getD (now index) (64 + place) 0 ≤ 512)) ⌝ }
+    requires { ⌜ (length (now index) ≡ frameWords) × ((place < mostFrames) × (getD (now index) (countsAt + place) 0 ≤ mostFrames)) ⌝ }
     ensures { λ _. ⌜ now (index .exit) ≡ takenAt (now (index .entry)) place frame ⌝ }
 {
     index[COUNTS + place] += 1;
@@ -80,7 +92,7 @@ fn take_in(image: &[u8], index: &mut [u32], frame: u32)
 {
     let f = frame_at(image, frame);
     let place = place_of(image, index, f.stream, f.job, f.hop) as usize;
-    if place < 512 {
+    if place < PLACES {
         take_at(index, place, frame);
     }
 }
@@ -100,7 +112,7 @@ fn take_all(image: &[u8], index: &mut [u32])
 
 // Gathers the frames of a plan into fresh words.
 pub fn gather(image: &[u8], index: &mut [u32])
-    requires { ⌜ Sound (now image) × (now index ≡ replicate 1088 0) ⌝ }
+    requires { ⌜ Sound (now image) × (now index ≡ replicate frameWords 0) ⌝ }
     ensures { λ _. ⌜ Indexed (now (image .entry)) (now (index .exit)) ⌝ }
 {
     place_streams(image, index);
@@ -114,7 +126,7 @@ fn has_one(image: &[u8], index: &[u32], stream: u32, job: u32, hop: u32) -> bool
     ensures { λ r. ⌜ r ≡ onceAt (now (image .entry)) stream job hop ⌝ }
 {
     let place = place_of(image, index, stream, job, hop) as usize;
-    if place < 512 {
+    if place < PLACES {
         index[COUNTS + place] == 1
     } else {
         false

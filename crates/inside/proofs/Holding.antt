@@ -10,7 +10,7 @@ use native.Mathlib.Omega.{arith}
 use lib.ListN.{length, getD, set}
 use borrow.Author.Tests.{eqb-true, leb-true}
 use Rattle.plan.specs.declared.Table.the-variants.{Vcpus, Tasks, Windows, Pieces}
-use Rattle.plan.specs.Image.{rows, shape, vcpu, window, piece}
+use Rattle.plan.specs.Image.{rows, shape, vcpu, window, piece, mostVcpus}
 use Rattle.plan.specs.Search.{any}
 use Rattle.plan.specs.Questions.{windowCore, windowEnd, windowInterval, charge, pieceEnd, inside, pieceInside, pieceQuestions}
 use Rattle.plan.specs.Reading.{Apart}
@@ -26,35 +26,35 @@ use Rattle.charges.proofs.Keeping.{vcpu-most}
 use Rattle.inside.specs.Holders.{holders, insideLast, vcpuOf, Starting, Begun}
 
 module _ (s : List ℕ) (h : Sound s) where
-  piece-vcpu-most : (i : ℕ) → i < rows s Pieces → vcpuOf s i < 64
+  piece-vcpu-most : (i : ℕ) → i < rows s Pieces → vcpuOf s i < mostVcpus
   unfolding shape vcpuOf
   piece-vcpu-most i l = let c = h .inside .counts Vcpus in omega (arith, h .names Tasks _ (h .names Pieces i l))
 
-  pub none-held : (last : List ℕ) → Kept last 0 64 (λ _. 0) → Kept last 0 64 (holders s 0)
+  pub none-held : (last : List ℕ) → Kept last 0 mostVcpus (λ _. 0) → Kept last 0 mostVcpus (holders s 0)
   unfolding holders
-  none-held last = latest-fresh (λ w. window s w .vcpu) (λ w. w + 1) last 64
+  none-held last = latest-fresh (λ w. window s w .vcpu) (λ w. w + 1) last mostVcpus
 
   -- no row below n is named higher than n
   pub holder-most : (n v : ℕ) → holders s n v ≤ n
   unfolding holders
   holder-most n v = latest-by (λ w. window s w .vcpu) (λ w. w + 1) n v n (λ q l e. omega arith)
 
-  module _ (last : List ℕ) (w : ℕ) (l : w < rows s Windows) (k : Kept last 0 64 (holders s w)) where
+  module _ (last : List ℕ) (w : ℕ) (l : w < rows s Windows) (k : Kept last 0 mostVcpus (holders s w)) where
     pub vcpu-inside : window s w .vcpu < length last
     vcpu-inside = let m = k .room in omega (arith, vcpu-most s h w l)
 
-    pub held-on : Kept (set last (window s w .vcpu) (w + 1)) 0 64 (holders s (w + 1))
+    pub held-on : Kept (set last (window s w .vcpu) (w + 1)) 0 mostVcpus (holders s (w + 1))
     unfolding holders latest
     held-on =
-        tally-on max 0 (λ x. window s x .vcpu) (λ x. x + 1) last 64 w k (w + 1) (vcpu-most s h w l)
-        (let e = kept-at last 64 (holders s w) k (window s w .vcpu) (vcpu-most s h w l) in omega (arith, holder-most w (window s w .vcpu)))
+        tally-on max 0 (λ x. window s x .vcpu) (λ x. x + 1) last mostVcpus w k (w + 1) (vcpu-most s h w l)
+        (let e = kept-at last mostVcpus (holders s w) k (window s w .vcpu) (vcpu-most s h w l) in omega (arith, holder-most w (window s w .vcpu)))
 
-  module _ (last : List ℕ) (n i : ℕ) (l : i < rows s Pieces) (k : Kept last 0 64 (holders s n)) where
+  module _ (last : List ℕ) (n i : ℕ) (l : i < rows s Pieces) (k : Kept last 0 mostVcpus (holders s n)) where
     pub piece-inside-words : vcpuOf s i < length last
     piece-inside-words = let m = k .room in omega (arith, piece-vcpu-most i l)
 
     pub holder-read : getD last (vcpuOf s i) 0 ≡ holders s n (vcpuOf s i)
-    holder-read = kept-at last 64 (holders s n) k (vcpuOf s i) (piece-vcpu-most i l)
+    holder-read = kept-at last mostVcpus (holders s n) k (vcpuOf s i) (piece-vcpu-most i l)
 
   module _ (p : Passed (pieceQuestions s) 4) (i : ℕ) (l : i < rows s Pieces) (n : ℕ) (b : Begun s (piece s i .start) n) where
     inside-of : (u : ℕ) → inside s i u ≡ true → (window s u .vcpu ≡ vcpuOf s i) × (window s u .start + charge s u ≤ piece s i .start) × (pieceEnd s i ≤ windowEnd s u)

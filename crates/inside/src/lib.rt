@@ -3,7 +3,7 @@
 ghost use mathlib.Core.Path.{_≡_};
 ghost use Prim.Native.Nat.{_<_, _≤_};
 ghost use Rattle.plan.specs.declared.Table.the-variants.{Windows, Pieces};
-ghost use Rattle.plan.specs.Image.{rows, piece};
+ghost use Rattle.plan.specs.Image.{rows, piece, mostVcpus};
 ghost use Rattle.plan.specs.Search.{firstNo};
 ghost use Rattle.plan.specs.Questions.{inside, pieceInside, pieceQuestions};
 ghost use Rattle.plan.specs.Held.{Sound, Passed};
@@ -13,6 +13,7 @@ ghost use Rattle.inside.specs.Holders.{holders, insideLast, vcpuOf, Begu
 use charges::charge_at;
 use plan::Found;
 use plan::Table;
+use plan::Vcpu;
 use tables::piece_at;
 use tables::rows_of;
 use tables::task_at;
@@ -36,9 +37,9 @@ fn lies_inside(image: &[u8], charges: &[u32], piece: u32, window: u32) -> bool
 
 // Takes in the windows from row `from` on that begin no later than a tick. Gives the first row that is left.
 fn take_windows(image: &[u8], last: &mut [u32], from: u32, tick: u32) -> u32
-    requires { ⌜ Sound (now image) × ((from ≤ rows (now image) Windows) × Kept (now last) 0 64 (holders (now image) from)) ⌝ }
+    requires { ⌜ Sound (now image) × ((from ≤ rows (now image) Windows) × Kept (now last) 0 mostVcpus (holders (now image) from)) ⌝ }
     requires { ⌜ Starting (now image) tick from ⌝ }
-    ensures { λ r. ⌜ Begun (now (image .entry)) tick r × Kept (now (last .exit)) 0 64 (holders (now (image .entry)) r) ⌝ }
+    ensures { λ r. ⌜ Begun (now (image .entry)) tick r × Kept (now (last .exit)) 0 mostVcpus (holders (now (image .entry)) r) ⌝ }
 {
     let windows = rows_of(image, Table::Windows);
     let mut window = from;
@@ -76,7 +77,7 @@ fn vcpu_of(image: &[u8], piece: u32) -> u32
 // The same of all pieces, with a word for each VCPU: its last window to begin, none at first.
 fn outside_after(image: &[u8], charges: &[u32], last: &mut [u32]) -> Found
     requires { ⌜ Sound (now image) × (Passed (pieceQuestions (now image)) 4 × Charged (now image) (now charges)) ⌝ }
-    requires { ⌜ Kept (now last) 0 64 (λ _. 0) ⌝ }
+    requires { ⌜ Kept (now last) 0 mostVcpus (λ _. 0) ⌝ }
     ensures { λ r. ⌜ r ≡ firstNo (rows (now (image .entry)) Pieces) (pieceInside (now (image .entry))) ⌝ }
 {
     let pieces = rows_of(image, Table::Pieces);
@@ -98,6 +99,6 @@ pub fn first_outside(image: &[u8], charges: &[u32]) -> Found
     requires { ⌜ Sound (now image) × (Passed (pieceQuestions (now image)) 4 × Charged (now image) (now charges)) ⌝ }
     ensures { λ r. ⌜ r ≡ firstNo (rows (now (image .entry)) Pieces) (pieceInside (now (image .entry))) ⌝ }
 {
-    let mut last = [0u32; 64];
+    let mut last = [0u32; Vcpu::MAX as usize];
     outside_after(image, charges, &mut last)
 }

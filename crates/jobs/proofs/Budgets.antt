@@ -9,12 +9,12 @@ use lib.Dec.{eqb}
 use lib.ListN.{getD}
 use borrow.Author.Tests.{eq-eqb, eqb-true, eqb-false, ne-eqb}
 use Rattle.plan.specs.declared.Table.the-variants.{Tasks, Pieces}
-use Rattle.plan.specs.Image.{rows, piece, task}
+use Rattle.plan.specs.Image.{rows, piece, task, mostPieces}
 use Rattle.plan.specs.Search.{sum, count}
 use Rattle.plan.specs.Questions.{pieceQuestions, jobs, ofJob, jobBudget, switchTicks}
 use Rattle.plan.specs.Held.{Sound, Passed}
 use Rattle.plan.proofs.Jobs.{of-job}
-use Rattle.jobs.specs.Times.{place, workOf, AllGathered, JobsBefore}
+use Rattle.jobs.specs.Times.{place, workOf, AllGathered, JobsBefore, worksAt}
 use Rattle.jobs.proofs.Held.{piece-fits, past-places}
 use Rattle.jobs.proofs.Gathering.{place-of-task, work-read}
 
@@ -51,13 +51,13 @@ module _ (s : List ℕ) (h : Sound s) (m : ℕ) (p : Passed (pieceQuestions s) m
 
 -- 13 of a job, as it is asked: past the places, and by its work
 module _ (s times : List ℕ) (h : Sound s) (p : Passed (pieceQuestions s) 6) (g : AllGathered s times) (t k : ℕ) (l : t < rows s Tasks) (y : k < jobs s t) where
-  pub no-place-left : JobsBefore s t k → 2048 ≤ getD times t 0 + k → false ≡ jobBudget s t k
+  pub no-place-left : JobsBefore s t k → mostPieces ≤ getD times t 0 + k → false ≡ jobBudget s t k
   unfolding place
   no-place-left b d = sym (past-places s h t k l y b (place-of-task s times (g .placed) t k l .1 d))
 
-  pub by-work : getD times t 0 + k < 2048 → eqb (getD times (4352 + (getD times t 0 + k)) 0) (task s t .budget) ≡ jobBudget s t k
+  pub by-work : getD times t 0 + k < mostPieces → eqb (getD times (worksAt + (getD times t 0 + k)) 0) (task s t .budget) ≡ jobBudget s t k
   by-work d =
       let e = place-of-task s times (g .placed) t k l .0 d in
       ap (λ (x : ℕ). eqb x (task s t .budget))
-      (ap (λ (x : ℕ). getD times (4352 + x) 0) e ∙ work-read s times h 6 p (omega arith) g t k l y (subst (λ (x : ℕ). x < 2048) e d))
+      (ap (λ (x : ℕ). getD times (worksAt + x) 0) e ∙ work-read s times h 6 p (omega arith) g t k l y (subst (λ (x : ℕ). x < mostPieces) e d))
       ∙ sym (budget-is s h 6 p (omega arith) t k)

@@ -7,7 +7,7 @@ use native.Mathlib.Decide.{decLt}
 use native.Mathlib.Omega.{arith}
 use borrow.Author.Tests.{eq-eqb, eqb-true}
 use Rattle.plan.specs.declared.Table.the-variants.{Tasks, Pieces}
-use Rattle.plan.specs.Image.{rows, piece, task, shape}
+use Rattle.plan.specs.Image.{rows, piece, task, shape, mostPieces}
 use Rattle.plan.specs.Search.{any, sum, count}
 use Rattle.plan.specs.Questions.{pieceQuestions, jobs, ofJob, jobBudget, taskBudget, switchTicks}
 use Rattle.plan.specs.Reading.{PieceFits}
@@ -65,7 +65,7 @@ module _ (s : List ℕ) (h : Sound s) where
       pick v l (no d) = at v t (v - sum t (jobs s)) (omega arith) (here (v - sum t (jobs s)) (omega arith))
 
   -- so a job past the places has not its budget, where all before it have
-  pub past-places : (t k : ℕ) → t < rows s Tasks → k < jobs s t → JobsBefore s t k → 2048 ≤ sum t (jobs s) + k → jobBudget s t k ≡ false
+  pub past-places : (t k : ℕ) → t < rows s Tasks → k < jobs s t → JobsBefore s t k → mostPieces ≤ sum t (jobs s) + k → jobBudget s t k ≡ false
   unfolding shape taskBudget
   past-places t k l m b d = go (jobBudget s t k) refl
     where
@@ -93,7 +93,7 @@ module _ (s : List ℕ) (h : Sound s) where
     unfolding jobBudget
     has-piece l t k m y = budget-piece t k m (eq-eqb _ _ (tasks-budget s n p l t m k y))
 
-    pub all-placed : 7 ≤ n → sum (rows s Tasks) (jobs s) ≤ 2048
+    pub all-placed : 7 ≤ n → sum (rows s Tasks) (jobs s) ≤ mostPieces
     unfolding shape
     all-placed l =
         let q = pieces-suffice (rows s Tasks) 0 (omega arith) (λ u j x y. has-piece l u j x y) (λ j y. absurd (omega arith)) in

@@ -4,48 +4,40 @@ ghost use mathlib.Core.Path.{_≡_};
 ghost use Prim.Native.Nat.{_+_, _^_, _<_, min, max};
 ghost use lib.ListN.{length, getD};
 ghost use Rattle.plan.specs.declared.Table.the-variants.{Tasks, Pieces};
-ghost use Rattle.plan.specs.Image.{rows, cycleTicks};
+ghost use Rattle.plan.specs.Image.{rows, cycleTicks, mostPieces};
 ghost use Rattle.plan.specs.Search.{firstNo};
 ghost use Rattle.plan.specs.Questions.{jobs, firstStart, lastEnd, jobBudget, taskBudget, pieceQuestions};
 ghost use Rattle.plan.specs.Held.{Sound, Passed};
-ghost use Rattle.jobs.specs.Times.{Cleared, takenAt, Gathered, AllGathered, TasksBefore, JobsBefore, Timed};
+ghost use Rattle.jobs.specs.Times.{Cleared, takenAt, Gathered, AllGathered, TasksBefore, JobsBefore, Timed, worksAt, timesWords};
 use plan::Found;
+use plan::Piece;
 use plan::Table;
+use plan::Task;
 use tables::cycle_ticks;
 use tables::piece_at;
 use tables::rows_of;
 use tables::task_at;
+use tallies::greater;
+use tallies::lesser;
 use terms::jobs_of;
 use terms::piece_end;
 use terms::switch_ticks;
 
 // How many words the times take: a place for each task; a first start, a last end and the work of each job.
-pub const WORDS: usize = 6400;
+pub const WORDS: usize = WORKS + JOBS;
 
 // How many jobs have a place.
-const JOBS: usize = 2048;
+const JOBS: usize = Piece::MAX as usize;
 
-const FIRSTS: usize = 256;
+const FIRSTS: usize = Task::MAX as usize;
 
-const LASTS: usize = 2304;
+const LASTS: usize = FIRSTS + JOBS;
 
-const WORKS: usize = 4352;
-
-fn lesser(a: u32, b: u32) -> u32
-    ensures { λ r. ⌜ r ≡ min a b ⌝ }
-{
-    if a < b { a } else { b }
-}
-
-fn greater(a: u32, b: u32) -> u32
-    ensures { λ r. ⌜ r ≡ max a b ⌝ }
-{
-    if a < b { b } else { a }
-}
+const WORKS: usize = LASTS + JOBS;
 
 // Writes the place of each task's job 0: the number of jobs of the tasks before it.
 fn place_tasks(image: &[u8], times: &mut [u32])
-    requires { ⌜ Sound (now image) × Cleared (cycleTicks (now image)) (now times) 2048 ⌝ }
+    requires { ⌜ Sound (now image) × Cleared (cycleTicks (now image)) (now times) mostPieces ⌝ }
     ensures { λ _. ⌜ Gathered (now (image .entry)) (now (times .exit)) 0 ⌝ }
 {
     let tasks = rows_of(image, Table::Tasks);
@@ -60,8 +52,8 @@ fn place_tasks(image: &[u8], times: &mut [u32])
 
 // Before any piece is taken in, a first start is the cycle's end, and a last end and the work are 0.
 fn clear_jobs(times: &mut [u32], cycle: u32)
-    requires { ⌜ length (now times) ≡ 6400 ⌝ }
-    ensures { λ _. ⌜ Cleared cycle (now (times .exit)) 2048 ⌝ }
+    requires { ⌜ length (now times) ≡ timesWords ⌝ }
+    ensures { λ _. ⌜ Cleared cycle (now (times .exit)) mostPieces ⌝ }
 {
     let mut place: usize = 0;
     while place < JOBS {
@@ -74,7 +66,7 @@ fn clear_jobs(times: &mut [u32], cycle: u32)
 
 // Takes a piece from start to end into the job at a place.
 fn take_at(times: &mut [u32], place: usize, start: u32, end: u32, work: u32)
-    requires { ⌜ (length (now times) ≡ 6400) × ((place < 2048) × (getD (now times) (4352 + place) 0 + work < 2 ^ 32)) ⌝ }
+    requires { ⌜ (length (now times) ≡ timesWords) × ((place < mostPieces) × (getD (now times) (worksAt + place) 0 + work < 2 ^ 32)) ⌝ }
     ensures { λ _. ⌜ now (times .exit) ≡ takenAt (now (times .entry)) place start end work ⌝ }
 {
     let first = lesser(times[FIRSTS + place], start);
@@ -116,7 +108,7 @@ fn take_all(image: &[u8], times: &mut [u32])
 
 // Gathers the times of a plan that has passed questions 1 to 12.
 pub fn gather(image: &[u8], times: &mut [u32])
-    requires { ⌜ Sound (now image) × (Passed (pieceQuestions (now image)) 6 × (length (now times) ≡ 6400)) ⌝ }
+    requires { ⌜ Sound (now image) × (Passed (pieceQuestions (now image)) 6 × (length (now times) ≡ timesWords)) ⌝ }
     ensures { λ _. ⌜ AllGathered (now (image .entry)) (now (times .exit)) ⌝ }
 {
     let cycle = cycle_ticks(image);

@@ -5,13 +5,13 @@ ghost use mathlib.Core.List.{_∷_, []};
 ghost use Prim.Native.Nat.{_+_, _*_, _<_, _≤_, min};
 ghost use lib.ListN.{length};
 ghost use Rattle.plan.specs.declared.Table.the-variants.{Pieces, Windows, Frames};
-ghost use Rattle.plan.specs.Image.{rows, cycleTicks};
+ghost use Rattle.plan.specs.Image.{rows, cycleTicks, mostWindows};
 ghost use Rattle.plan.specs.Held.{Sound};
 ghost use Rattle.plan.specs.Questions.{answerOf, accepted};
 ghost use Rattle.plan.specs.Dispatch.{onCore, onLink, shownAt, lanes, entryCount, entries};
 ghost use Rattle.charges.specs.Charges.{Charged};
 ghost use Rattle.places.specs.declared.Occupant.the-variants.{Piece, Window, Frame};
-ghost use Rattle.places.specs.Index.{Indexed};
+ghost use Rattle.places.specs.Index.{Indexed, indexWords};
 ghost use Rattle.lanes.specs.Taken.{Cursor, Current, Nearest};
 ghost use Rattle.lanes.specs.Walks.{idleStretch, pieceStretch, windowStretch, frameStretch, segmentOf, Ahead, Shows, Gathered, Keeps, Sees, Reached, StepFrom};
 ghost use Rattle.lanes.specs.Words.{putAt, Filled};
@@ -28,12 +28,18 @@ use tables::cycle_ticks;
 use tables::piece_at;
 use tables::rows_of;
 use tables::window_at;
+use tallies::lesser;
 use terms::frame_end;
 use terms::switch_ticks;
 
+// How many words that takes: charges, and the index of places.
+pub const CHARGES: usize = charges::WORDS;
+
+pub const INDEX: usize = places::WORDS;
+
 // Gathers what a walk along a lane needs: the charges of the windows, and the rows of each place.
 pub fn gather(image: &[u8], charges: &mut [u32], index: &mut [u32])
-    requires { ⌜ (answerOf (now image) ≡ accepted) × ((length (now charges) ≡ 1024) × (length (now index) ≡ 3776)) ⌝ }
+    requires { ⌜ (answerOf (now image) ≡ accepted) × ((length (now charges) ≡ mostWindows) × (length (now index) ≡ indexWords)) ⌝ }
     ensures { λ _. ⌜ Gathered (now (image .entry)) (now (charges .exit)) (now (index .exit)) ⌝ }
 {
     charges::gather(image, charges);
@@ -86,12 +92,6 @@ pub struct Stretch {
     until: u32,
 }
 
-fn least(a: u32, b: u32) -> u32
-    ensures { λ r. ⌜ r ≡ min a b ⌝ }
-{
-    if a <= b { a } else { b }
-}
-
 fn idle_stretch(until: u32) -> Stretch
     ensures { λ r. ⌜ r ≡ idleStretch until ⌝ }
 {
@@ -130,7 +130,7 @@ fn window_stretch(image: &[u8], charges: &[u32], window: u32, most: u32) -> Stre
         later: 2,
         row: window,
         turn: w.start + charge_at(image, charges, window),
-        until: least(w.start + w.length, most),
+        until: lesser(w.start + w.length, most),
     }
 }
 
@@ -165,7 +165,7 @@ fn core_stretch(
         Near::Taken(taken) => piece_stretch(image, taken),
         Near::Free(next) => match nearest(image, Occupant::Window, core, tick, window) {
             Near::Taken(around) => window_stretch(image, charges, around, next),
-            Near::Free(free) => idle_stretch(least(free, next)),
+            Near::Free(free) => idle_stretch(lesser(free, next)),
         },
     }
 }
@@ -283,7 +283,7 @@ fn segment_at(stretch: Stretch, tick: u32) -> Segment
         Segment {
             kind: stretch.kind,
             row: stretch.row,
-            until: least(stretch.turn, stretch.until),
+            until: lesser(stretch.turn, stretch.until),
         }
     } else {
         Segment {

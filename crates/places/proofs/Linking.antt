@@ -9,33 +9,33 @@ use native.Mathlib.Decide.{ℕ-discrete}
 use lib.ListN.{length, getD, set, length-set}
 use lib.Seq.{getD-set-same, getD-set-other}
 use Rattle.plan.specs.declared.Table.the-variants.{Cores, Links, Windows, Pieces, Frames}
-use Rattle.plan.specs.Image.{shape, rows}
+use Rattle.plan.specs.Image.{shape, rows, mostPieces}
 use Rattle.plan.specs.Questions.{pieceCore}
 use Rattle.plan.specs.Held.{Sound}
 use Rattle.terms.proofs.Naming.{core-below, window-core-below}
 use Rattle.places.specs.declared.Occupant.{Occupant}
 use Rattle.places.specs.declared.Occupant.the-variants.{Piece, Window, Frame}
 use Rattle.places.specs.Places.{tableFor, placeOf, NextRow}
-use Rattle.places.specs.Index.{baseOf, linkedAt, Untouched, Cleared, Linked, Indexed}
+use Rattle.places.specs.Index.{baseOf, linkedAt, Untouched, Cleared, Linked, Indexed, mostPlaces, framesAt, indexWords}
 
 -- ---- places and words
 
 module _ (s : List ℕ) (h : Sound s) where
   -- a row's place has a word
-  pub place-small : (o : Occupant) (i : ℕ) → i < rows s (tableFor o) → placeOf s o i < 64
+  pub place-small : (o : Occupant) (i : ℕ) → i < rows s (tableFor o) → placeOf s o i < mostPlaces
   unfolding tableFor placeOf pieceCore shape
   place-small Piece i l = omega (arith, core-below s h _ (h .names Pieces i l), h .inside .counts Cores)
   place-small Window i l = omega (arith, window-core-below s h i l, h .inside .counts Cores)
   place-small Frame i l = omega (arith, h .names Frames i l .1, h .inside .counts Links)
 
   -- and so has a row
-  pub row-small : (o : Occupant) (i : ℕ) → i < rows s (tableFor o) → (baseOf o + i < 3712) × (i < 2048)
+  pub row-small : (o : Occupant) (i : ℕ) → i < rows s (tableFor o) → (baseOf o + mostPlaces + i < indexWords) × (i < mostPieces)
   unfolding tableFor baseOf shape
   row-small Piece i l = let m = h .inside .counts Pieces in (omega arith, omega arith)
   row-small Window i l = let m = h .inside .counts Windows in (omega arith, omega arith)
   row-small Frame i l = let m = h .inside .counts Frames in (omega arith, omega arith)
 
-pub base-small : (o : Occupant) → baseOf o ≤ 3200
+pub base-small : (o : Occupant) → baseOf o ≤ framesAt
 unfolding baseOf
 base-small Piece = omega arith
 base-small Window = omega arith
@@ -43,10 +43,10 @@ base-small Frame = omega arith
 
 -- ---- no rows
 
-pub cleared-none : (base many : ℕ) (index : List ℕ) → length index ≡ 3776 → Cleared base many index 0
+pub cleared-none : (base many : ℕ) (index : List ℕ) → length index ≡ indexWords → Cleared base many index 0
 cleared-none base many index e = record { size = e; firsts = λ c l. absurd (not-suc-le-zero l) }
 
-pub cleared-more : (base many : ℕ) (index : List ℕ) (n : ℕ) → base + n < 3776 → Cleared base many index n → Cleared base many (set index (base + n) many) (suc n)
+pub cleared-more : (base many : ℕ) (index : List ℕ) (n : ℕ) → base + n < indexWords → Cleared base many index n → Cleared base many (set index (base + n) many) (suc n)
 cleared-more base many index n l h =
     record { size = length-set index (base + n) many ∙ h .size; firsts = λ c k. go c (eq-or-lt-of-le (le-of-suc-le-suc k)) }
   where
@@ -63,7 +63,7 @@ kept-over base before index n x h k l = getD-set-other index (base + n) k x 0 (�
 -- ---- rows taken in
 
 module _ (s : List ℕ) (o : Occupant) where
-  pub linked-none : {base many : ℕ} (index : List ℕ) → base ≡ baseOf o → many ≡ rows s (tableFor o) → Cleared base many index 64 → Linked s o index (rows s (tableFor o))
+  pub linked-none : {base many : ℕ} (index : List ℕ) → base ≡ baseOf o → many ≡ rows s (tableFor o) → Cleared base many index mostPlaces → Linked s o index (rows s (tableFor o))
   linked-none index e m h =
       record {
         size = h .size;
@@ -82,31 +82,31 @@ module _ (s : List ℕ) (o : Occupant) where
     head = getD index (base + c) 0
 
     abbrev inner : List ℕ
-    inner = set index (base + 64 + i) head
+    inner = set index (base + mostPlaces + i) head
 
     abbrev after : List ℕ
     after = set inner (base + c) i
 
-    small : c < 64
+    small : c < mostPlaces
     small = place-small s h o i l
 
-    inner-size : length inner ≡ 3776
-    inner-size = length-set index (base + 64 + i) head ∙ g .size
+    inner-size : length inner ≡ indexWords
+    inner-size = length-set index (base + mostPlaces + i) head ∙ g .size
 
     -- what is read afterwards
-    other : (k : ℕ) → k ≢ base + 64 + i → k ≢ base + c → getD after k 0 ≡ getD index k 0
-    other k a b = getD-set-other inner (base + c) k i 0 b ∙ getD-set-other index (base + 64 + i) k head 0 a
+    other : (k : ℕ) → k ≢ base + mostPlaces + i → k ≢ base + c → getD after k 0 ≡ getD index k 0
+    other k a b = getD-set-other inner (base + c) k i 0 b ∙ getD-set-other index (base + mostPlaces + i) k head 0 a
 
     here : getD after (base + c) 0 ≡ i
     here = getD-set-same inner (base + c) i 0 (omega (arith, inner-size, small, base-small o))
 
-    linked : getD after (base + 64 + i) 0 ≡ head
+    linked : getD after (base + mostPlaces + i) 0 ≡ head
     linked =
-        getD-set-other inner (base + c) (base + 64 + i) i 0 (λ e. absurd (omega (arith, small)))
-        ∙ getD-set-same index (base + 64 + i) head 0 (omega (arith, g .size, row-small s h o i l .0))
+        getD-set-other inner (base + c) (base + mostPlaces + i) i 0 (λ e. absurd (omega (arith, small)))
+        ∙ getD-set-same index (base + mostPlaces + i) head 0 (omega (arith, g .size, row-small s h o i l .0))
 
     -- row i comes first at its place, and at no other
-    first : (d : ℕ) → d < 64 → Dec (d ≡ c) → NextRow s o d i (getD after (base + d) 0)
+    first : (d : ℕ) → d < mostPlaces → Dec (d ≡ c) → NextRow s o d i (getD after (base + d) 0)
     first d m (yes e) = rw (e, here) (record { from = omega arith; within = omega arith; place = λ k. refl; none = λ j a b. absurd (omega arith) })
     first d m (no e) =
         let n = g .firsts d m in
@@ -117,9 +117,9 @@ module _ (s : List ℕ) (o : Occupant) where
         apart j (inl q) b z = e (sym z ∙ ap (placeOf s o) (sym q))
         apart j (inr q) b z = g .firsts d m .none j q b z
 
-    next : (j : ℕ) → (i ≡ j) ⊎ (i < j) → j < rows s (tableFor o) → NextRow s o (placeOf s o j) (suc j) (getD after (base + 64 + j) 0)
+    next : (j : ℕ) → (i ≡ j) ⊎ (i < j) → j < rows s (tableFor o) → NextRow s o (placeOf s o j) (suc j) (getD after (base + mostPlaces + j) 0)
     next j (inl q) k = rw (← q, linked) (g .firsts c small)
-    next j (inr q) k = rw (other (base + 64 + j) (λ e. absurd (omega arith)) (λ e. absurd (omega (arith, small)))) (g .nexts j q k)
+    next j (inr q) k = rw (other (base + mostPlaces + j) (λ e. absurd (omega arith)) (λ e. absurd (omega (arith, small)))) (g .nexts j q k)
 
     pub linked-more : Linked s o (linkedAt index (baseOf o) (placeOf s o i) i) i
     unfolding linkedAt
@@ -134,13 +134,13 @@ module _ (s : List ℕ) (o : Occupant) where
 
 module _ (s : List ℕ) (h : Sound s) where
   -- a part below one that is gathered later stays
-  stays : (o p : Occupant) {a b : List ℕ} → baseOf o + 64 ≤ baseOf p → ((i : ℕ) → i < rows s (tableFor o) → baseOf o + 64 + i < baseOf p)
-      → length b ≡ 3776 → Untouched (baseOf p) a b → Linked s o a 0 → Linked s o b 0
+  stays : (o p : Occupant) {a b : List ℕ} → baseOf o + mostPlaces ≤ baseOf p → ((i : ℕ) → i < rows s (tableFor o) → baseOf o + mostPlaces + i < baseOf p)
+      → length b ≡ indexWords → Untouched (baseOf p) a b → Linked s o a 0 → Linked s o b 0
   stays o p lo hi e k g =
       record {
         size = e;
         firsts = λ d m. rw (k (baseOf o + d) (omega arith)) (g .firsts d m);
-        nexts = λ j l m. rw (k (baseOf o + 64 + j) (hi j m)) (g .nexts j l m);
+        nexts = λ j l m. rw (k (baseOf o + mostPlaces + j) (hi j m)) (g .nexts j l m);
       }
 
   pub indexed : (a b c : List ℕ) → Linked s Piece a 0 → Linked s Window b 0 → Untouched (baseOf Window) a b → Linked s Frame c 0 → Untouched (baseOf Frame) b c → Indexed s c

@@ -3,11 +3,15 @@
 ghost use mathlib.Core.Path.{_≡_};
 ghost use Prim.Native.Nat.{suc, _+_, _<_, _≤_};
 ghost use lib.ListN.{length};
-ghost use Rattle.plan.specs.Image.{rows};
+ghost use Rattle.plan.specs.Image.{rows, mostPieces};
 ghost use Rattle.plan.specs.Held.{Sound};
 ghost use Rattle.places.specs.Places.{tableFor, placeOf, fromOf, toOf, NextRow};
-ghost use Rattle.places.specs.Index.{baseOf, linkedAt, Untouched, Cleared, Linked, Indexed};
+ghost use Rattle.places.specs.Index.{baseOf, linkedAt, Untouched, Cleared, Linked, Indexed, mostPlaces, framesAt, indexWords};
+use plan::Frame;
+use plan::Link;
+use plan::Piece;
 use plan::Table;
+use plan::Window;
 use tables::frame_at;
 use tables::piece_at;
 use tables::rows_of;
@@ -19,10 +23,15 @@ use terms::window_core;
 use terms::window_end;
 
 // How many words the index takes.
-pub const WORDS: usize = 3776;
+pub const WORDS: usize = FRAMES + PLACES + Frame::MAX as usize;
 
 // A word for each place of an occupant; more than there are cores, and as many as there are links.
-const PLACES: usize = 64;
+pub const PLACES: usize = Link::MAX as usize;
+
+// Where the words of windows and of frames begin.
+const WINDOWS: usize = PLACES + Piece::MAX as usize;
+
+const FRAMES: usize = WINDOWS + PLACES + Window::MAX as usize;
 
 // What takes up ticks of a place: pieces and windows those of a core, frames those of a link.
 pub enum Occupant {
@@ -83,15 +92,15 @@ fn base_of(occupant: Occupant) -> usize
 {
     match occupant {
         Occupant::Piece => 0,
-        Occupant::Window => 2112,
-        Occupant::Frame => 3200,
+        Occupant::Window => WINDOWS,
+        Occupant::Frame => FRAMES,
     }
 }
 
 // Before any row is taken in, no place has one.
 fn clear(index: &mut [u32], base: usize, rows: u32)
-    requires { ⌜ (length (now index) ≡ 3776) × (base ≤ 3200) ⌝ }
-    ensures { λ _. ⌜ Cleared base rows (now (index .exit)) 64 × Untouched base (now (index .entry)) (now (index .exit)) ⌝ }
+    requires { ⌜ (length (now index) ≡ indexWords) × (base ≤ framesAt) ⌝ }
+    ensures { λ _. ⌜ Cleared base rows (now (index .exit)) mostPlaces × Untouched base (now (index .entry)) (now (index .exit)) ⌝ }
 {
     let mut place: usize = 0;
     while place < PLACES {
@@ -102,7 +111,7 @@ fn clear(index: &mut [u32], base: usize, rows: u32)
 
 // Puts a row before those of its place.
 fn link(index: &mut [u32], base: usize, place: usize, row: usize)
-    requires { ⌜ (length (now index) ≡ 3776) × ((place < 64) × ((base + row < 3712) × (row < 2048))) ⌝ }
+    requires { ⌜ (length (now index) ≡ indexWords) × ((place < mostPlaces) × ((base + mostPlaces + row < indexWords) × (row < mostPieces))) ⌝ }
     ensures { λ _. ⌜ now (index .exit) ≡ linkedAt (now (index .entry)) base place row ⌝ }
 {
     let next = index[base + place];
@@ -127,7 +136,7 @@ fn link_rows(image: &[u8], index: &mut [u32], occupant: Occupant)
 
 // An occupant's part of the index.
 fn gather_part(image: &[u8], index: &mut [u32], occupant: Occupant)
-    requires { ⌜ Sound (now image) × (length (now index) ≡ 3776) ⌝ }
+    requires { ⌜ Sound (now image) × (length (now index) ≡ indexWords) ⌝ }
     ensures { λ _. ⌜ Linked (now (image .entry)) occupant (now (index .exit)) 0 × Untouched (baseOf occupant) (now (index .entry)) (now (index .exit)) ⌝ }
 {
     let rows = rows_of(image, table_for(occupant));
@@ -137,7 +146,7 @@ fn gather_part(image: &[u8], index: &mut [u32], occupant: Occupant)
 
 // Gathers the index.
 pub fn gather(image: &[u8], index: &mut [u32])
-    requires { ⌜ Sound (now image) × (length (now index) ≡ 3776) ⌝ }
+    requires { ⌜ Sound (now image) × (length (now index) ≡ indexWords) ⌝ }
     ensures { λ _. ⌜ Indexed (now (image .entry)) (now (index .exit)) ⌝ }
 {
     gather_part(image, index, Occupant::Piece);
@@ -147,7 +156,7 @@ pub fn gather(image: &[u8], index: &mut [u32])
 
 // The lowest row of a place, or the number of rows.
 pub fn first_at(image: &[u8], index: &[u32], occupant: Occupant, place: u32) -> u32
-    requires { ⌜ Indexed (now image) (now index) × (place < 64) ⌝ }
+    requires { ⌜ Indexed (now image) (now index) × (place < mostPlaces) ⌝ }
     ensures { λ r. ⌜ NextRow (now (image .entry)) occupant place 0 r ⌝ }
 {
     index[base_of(occupant) + place as usize]

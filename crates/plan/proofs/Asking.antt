@@ -1,7 +1,7 @@
 -- Asking a list of questions one after the other: what a loop over them needs.
 use Prim.Native.Nat.{ℕ, zero, suc, _+_, _≤_, _<_}
 use mathlib.Core.Path.{_≡_, refl, sym, ap, _∙_, subst}
-use mathlib.Core.Logic.{_⊎_, inl, inr}
+use mathlib.Core.Logic.{_⊎_, inl, inr, _≢_}
 use mathlib.Core.Bool.{true}
 use mathlib.Core.List.{List, _∷_, _++_, []}
 use native.Mathlib.Nat.{not-suc-le-zero, eq-or-lt-of-le, le-of-suc-le-suc}
@@ -11,8 +11,10 @@ use Rattle.plan.specs.declared.Answer.{Answer}
 use Rattle.plan.specs.declared.Found.{Found}
 use Rattle.plan.specs.declared.Found.the-variants.{At, Nothing}
 use Rattle.plan.specs.Search.{firstNo}
-use Rattle.plan.specs.Questions.{Question, questionAt, answerTo, accepted}
-use Rattle.plan.specs.Held.{Passed}
+use Rattle.plan.specs.Image.{shape, rows}
+use Rattle.plan.specs.Questions.{Question, questionAt, each, answerTo, accepted}
+use Rattle.plan.specs.Held.{Passed, Listed, refusing}
+use Rattle.plan.specs.declared.Asked.{Asked}
 use Rattle.plan.proofs.Searching.{none-iff}
 use Rattle.plan.proofs.Answers.{named, no-row, a-row}
 
@@ -111,6 +113,36 @@ pub stopped-at : (qs : List Question) (i r n t : ℕ) → Passed qs i → i < le
     → questionAt qs i .asked ≡ n → questionAt qs i .table ≡ t → record { number = n; table = t; row = r } ≡ answerTo qs
 unfolding named
 stopped-at qs i r n t h l e a b = sym (passed-stops qs i r h l e ∙ (rw (a, b) refl))
+
+-- the same, of a question that is told by its number and table
+pub refused-at : (qs : List ℕ → List Question) (s : List ℕ) (i r : ℕ) (a : Asked) → Listed qs i a → Passed (qs s) i → i < length (qs s)
+    → refusing (questionAt (qs s) i) ≡ At r → record { number = a .number; table = shape (a .table) .number; row = r } ≡ answerTo (qs s)
+unfolding each
+refused-at qs s i r a k h l e =
+    stopped-at (qs s) i r (a .number) (shape (a .table) .number) h l e (ap (λ (q : Question). q .asked) (k s)) (ap (λ (q : Question). q .table) (k s))
+
+-- a question of a list has a number
+real-at : (qs : List Question) (i : ℕ) → Real qs → i < length qs → 1 ≤ questionAt qs i .asked
+unfolding questionAt
+real-at [] i g l = absurd (not-suc-le-zero l)
+real-at (q ∷ qs) zero g l = g .0
+real-at (q ∷ qs) (suc i) g l = real-at qs i (g .1) (le-of-suc-le-suc l)
+
+pub listed-some : (qs : List ℕ → List Question) (s : List ℕ) (i : ℕ) (a : Asked) → Real (qs s) → i < length (qs s) → Listed qs i a → a .number ≢ 0
+unfolding each
+listed-some qs s i a g l k z =
+    let h = real-at (qs s) i g l in
+    let e : questionAt (qs s) i .asked ≡ a .number = ap (λ (q : Question). q .asked) (k s) in
+    omega arith
+
+-- a place that is none of the lowest is above them
+pub above : (i a : ℕ) → a ≤ i → i ≢ a → suc a ≤ i
+above i a l h = omega arith
+
+-- its rows are those of the table
+pub listed-rows : (qs : List ℕ → List Question) (s : List ℕ) (i : ℕ) (a : Asked) → Listed qs i a → rows s (a .table) ≡ questionAt (qs s) i .many
+unfolding each
+listed-rows qs s i a k = sym (ap (λ (q : Question). q .many) (k s))
 
 -- the list is through
 pub passed-end : (qs : List Question) (i : ℕ) → i ≡ length qs → Passed qs i → answerTo qs ≡ accepted

@@ -7,7 +7,8 @@ use Rattle.plan.specs.declared.Table.the-variants.{Cores}
 use Rattle.plan.specs.Image.{shape, trailerBytes, tableEnd, rows, cycleTicks, precision}
 use Rattle.plan.specs.Reading.{Names, InOrder, InRange}
 use Rattle.plan.specs.Search.{firstNo}
-use Rattle.plan.specs.Questions.{Question, questionAt}
+use Rattle.plan.specs.Questions.{Question, questionAt, each}
+use Rattle.plan.specs.declared.Asked.{Asked}
 use Rattle.plan.specs.declared.Found.{Found}
 use Rattle.plan.specs.declared.Found.the-variants.{Nothing}
 use mathlib.Core.Path.{_≡_}
@@ -36,3 +37,7 @@ refusing q = firstNo (q .many) (q .ok)
 -- no row says no to any of the first i questions of a list
 abbrev pub Passed : List Question → ℕ → Type 0
 Passed qs i = (j : ℕ) → j < i → refusing (questionAt qs j) ≡ Nothing
+
+-- of every image, question i of a list has this number and asks each row of this table
+abbrev pub Listed : (List ℕ → List Question) → ℕ → Asked → Type 0
+Listed qs i a = (s : List ℕ) → questionAt (qs s) i ≡ each s (a .number) (a .table) (questionAt (qs s) i .ok)

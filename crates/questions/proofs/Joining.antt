@@ -14,7 +14,7 @@ use Rattle.plan.proofs.Asking.{then-asked, stopped-first, passed-of, passed-all
 use Rattle.plan.proofs.Meanings.{image-agree, row-agree}
 use Rattle.plan.proofs.Sounds.{in-image, sound}
 use Rattle.layout.specs.Tests.{rowTest}
-use Rattle.chains.specs.Walks.{Asked}
+use Rattle.chains.specs.Walks.{BeforeChains}
 
 module _ (s : List ℕ) where
   abbrev nameQuestions : List Question
@@ -114,6 +114,6 @@ module _ (s : List ℕ) where
     to-chains b = then-asked (streamQuestions s) (bufferQuestions s ++ chainQuestions s) (real-streams s) e ∙ then-asked (bufferQuestions s) (chainQuestions s) (real-buffers s) b
 
     -- what 1 to 24 have shown, for the chains
-    pub before-chains : Sound s → Passed (pieceQuestions s) 7 → answerTo (bufferQuestions s) .number ≡ 0 → Asked s
+    pub before-chains : Sound s → Passed (pieceQuestions s) 7 → answerTo (bufferQuestions s) .number ≡ 0 → BeforeChains s
     unfolding streamQuestions bufferQuestions
     before-chains h p b = record { sound = h; pieces = p; streams = passed-of (streamQuestions s) (real-streams s) e; buffers = passed-of (bufferQuestions s) (real-buffers s) b }

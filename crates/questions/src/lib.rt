@@ -28,7 +28,7 @@ fn ask_plan(image: &[u8]) -> Answer
     requires { ⌜ Sound (now image) ⌝ }
     ensures { λ r. ⌜ r ≡ answerTo (planQuestions (now (image .entry))) ⌝ }
 {
-    let mut times = [0u32; 6400];
+    let mut times = [0u32; jobs::WORDS];
     let pieces = windows::ask(image, &mut times);
     if pieces.number != 0 {
         return pieces;

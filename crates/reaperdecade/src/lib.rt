@@ -228,7 +228,7 @@ pub extern "C" fn rd_check(image: &[u8]) -> u64
     packed(questions::check(image))
 }
 
-// Builds a lane's table: asks 1 to 24 and 29 to 32, then 25 and 26, and writes H, n and the entries as words. Later bytes, and all bytes
+// Builds a lane's table: asks the check's questions, then 25 and 26, and writes H, n and the entries as words. Later bytes, and all bytes
 // after a refusal, stay as they are.
 #[no_mangle]
 pub extern "C" fn rd_build(image: &[u8], lane: u32, words: &mut [u8]) -> u64
@@ -237,7 +237,7 @@ pub extern "C" fn rd_build(image: &[u8], lane: u32, words: &mut [u8]) -> u64
     packed(writing::build(image, lane, words))
 }
 
-// Builds the tables of all lanes one after another, lanes rising: asks 1 to 24 and 29 to 32 once, then 26 of all words together. Later
+// Builds the tables of all lanes one after another, lanes rising: asks the check's questions once, then 26 of all words together. Later
 // bytes, and all bytes after a refusal, stay as they are.
 #[no_mangle]
 pub extern "C" fn rd_build_all(image: &[u8], words: &mut [u8]) -> u64

@@ -1,15 +1,14 @@
 // Questions 14 to 21 (paper 01, "The questions"): streams and frames.
 ghost use mathlib.Core.Path.{_≡_};
-ghost use mathlib.Core.Logic.{_≢_};
-ghost use Prim.Native.Nat.{_-_, _<_, _≤_};
+ghost use Prim.Native.Nat.{_<_, _≤_};
 ghost use Rattle.plan.specs.declared.Table.the-variants.{Streams, Frames};
 ghost use Rattle.plan.specs.Image.{rows};
-ghost use Rattle.plan.specs.Held.{Sound, refusing};
+ghost use Rattle.plan.specs.Held.{Sound, Listed, refusing};
 ghost use Rattle.plan.specs.Questions.{streamEnds, frameFits, joined, hopWaits};
 ghost use Rattle.plan.specs.Questions.{messageWaits, inTime, eachJob, questionAt, streamQuestions, answerTo};
 ghost use Rattle.jobs.specs.Times.{Timed};
 ghost use Rattle.frames.specs.Index.{Framed, Indexed, JobOf};
-ghost use Rattle.streams.specs.Framing.{jobAsked, tableAsked, Asking};
+ghost use Rattle.streams.specs.Framing.{Asking, RowAsked, jobAsked};
 use clashes::first_clash;
 use frames::first_unframed;
 use frames::frame_of;
@@ -17,13 +16,14 @@ use jobs::first_start;
 use jobs::last_end;
 use places::Occupant;
 use plan::Answer;
+use plan::Asked;
 use plan::Found;
 use plan::Table;
 use tables::frame_at;
 use tables::link_at;
 use tables::precision_ticks;
+use tables::refusal;
 use tables::rows_of;
-use tables::shape_of;
 use tables::stream_at;
 use tables::task_at;
 use terms::across_at;
@@ -118,34 +118,88 @@ fn in_time(image: &[u8], times: &[u32], stream: u32, job: u32) -> bool
     end <= limit_of(image, stream) as u64 + start
 }
 
-// Does a job of a stream pass question 17, 20 or 21?
-fn job_passes(
-    image: &[u8],
-    times: &[u32],
-    index: &[u32],
-    number: u32,
-    stream: u32,
-    job: u32,
-) -> bool
-    requires { ⌜ Asking (now image) (now times) (now index) number × ((17 ≤ number) × JobOf (now image) stream job) ⌝ }
-    ensures { λ r. ⌜ r ≡ jobAsked (now (image .entry)) number stream job ⌝ }
+// The questions, by their place in the list.
+const STREAM_ENDS: u32 = 0;
+
+const FRAME_FITS: u32 = 1;
+
+const ONE_FRAME: u32 = 2;
+
+const JOINED: u32 = 3;
+
+const HOP_WAITS: u32 = 4;
+
+const FRAME_CLEAR: u32 = 5;
+
+const MESSAGE_WAITS: u32 = 6;
+
+const IN_TIME: u32 = 7;
+
+// How many there are.
+const QUESTIONS: u32 = 8;
+
+// The list: each question's number and table, in the order asked.
+fn question_at(place: u32) -> Asked
+    requires { ⌜ place < 8 ⌝ }
+    ensures { λ r. ⌜ Listed streamQuestions place r ⌝ }
 {
-    match number {
-        17 => hops_joined(image, index, stream, job),
-        20 => message_waits(image, times, index, stream, job),
+    match place {
+        STREAM_ENDS => Asked {
+            number: 14,
+            table: Table::Streams,
+        },
+        FRAME_FITS => Asked {
+            number: 15,
+            table: Table::Frames,
+        },
+        ONE_FRAME => Asked {
+            number: 16,
+            table: Table::Streams,
+        },
+        JOINED => Asked {
+            number: 17,
+            table: Table::Streams,
+        },
+        HOP_WAITS => Asked {
+            number: 18,
+            table: Table::Frames,
+        },
+        FRAME_CLEAR => Asked {
+            number: 19,
+            table: Table::Frames,
+        },
+        MESSAGE_WAITS => Asked {
+            number: 20,
+            table: Table::Streams,
+        },
+        _ => Asked {
+            number: 21,
+            table: Table::Streams,
+        },
+    }
+}
+
+// Does a job of a stream pass question 17, 20 or 21?
+fn job_passes(image: &[u8], times: &[u32], index: &[u32], place: u32, stream: u32, job: u32) -> bool
+    requires { ⌜ Asking (now image) (now times) (now index) place × ((3 ≤ place) × JobOf (now image) stream job) ⌝ }
+    ensures { λ r. ⌜ r ≡ jobAsked (now (image .entry)) place stream job ⌝ }
+{
+    match place {
+        JOINED => hops_joined(image, index, stream, job),
+        MESSAGE_WAITS => message_waits(image, times, index, stream, job),
         _ => in_time(image, times, stream, job),
     }
 }
 
 // Does every job of a stream? There are no more jobs than frames where 16 is passed.
-fn each_job(image: &[u8], times: &[u32], index: &[u32], number: u32, stream: u32) -> bool
-    requires { ⌜ Asking (now image) (now times) (now index) number × ((17 ≤ number) × (stream < rows (now image) Streams)) ⌝ }
-    ensures { λ r. ⌜ r ≡ eachJob (now (image .entry)) (jobAsked (now (image .entry)) number) stream ⌝ }
+fn each_job(image: &[u8], times: &[u32], index: &[u32], place: u32, stream: u32) -> bool
+    requires { ⌜ Asking (now image) (now times) (now index) place × ((3 ≤ place) × (stream < rows (now image) Streams)) ⌝ }
+    ensures { λ r. ⌜ r ≡ eachJob (now (image .entry)) (jobAsked (now (image .entry)) place) stream ⌝ }
 {
     let jobs = jobs_of(image, stream_at(image, stream).sender);
     let mut job: u32 = 0;
     while job < jobs {
-        if !job_passes(image, times, index, number, stream, job) {
+        if !job_passes(image, times, index, place, stream, job) {
             return false;
         }
         job += 1;
@@ -154,40 +208,30 @@ fn each_job(image: &[u8], times: &[u32], index: &[u32], number: u32, stream: u32
 }
 
 // Does a row pass question 14, 15, 17, 18, 20 or 21?
-fn passes(image: &[u8], times: &[u32], index: &[u32], number: u32, row: u32) -> bool
-    requires { ⌜ Asking (now image) (now times) (now index) number × ((number ≢ 16) × (number ≢ 19)) ⌝ }
-    requires { ⌜ row < questionAt (streamQuestions (now image)) (number - 14) .many ⌝ }
-    ensures { λ r. ⌜ r ≡ questionAt (streamQuestions (now (image .entry))) (number - 14) .ok row ⌝ }
+fn passes(image: &[u8], times: &[u32], index: &[u32], place: u32, row: u32) -> bool
+    requires { ⌜ Asking (now image) (now times) (now index) place × RowAsked place ⌝ }
+    requires { ⌜ row < questionAt (streamQuestions (now image)) place .many ⌝ }
+    ensures { λ r. ⌜ r ≡ questionAt (streamQuestions (now (image .entry))) place .ok row ⌝ }
 {
-    match number {
-        14 => stream_ends(image, row),
-        15 => frame_fits(image, row),
-        18 => hop_waits(image, index, row),
-        _ => each_job(image, times, index, number, row),
-    }
-}
-
-// The table that a question asks over.
-fn table_of(number: u32) -> Table
-    ensures { λ r. ⌜ r ≡ tableAsked number ⌝ }
-{
-    match number {
-        15 => Table::Frames,
-        18 => Table::Frames,
-        19 => Table::Frames,
-        _ => Table::Streams,
+    match place {
+        STREAM_ENDS => stream_ends(image, row),
+        FRAME_FITS => frame_fits(image, row),
+        HOP_WAITS => hop_waits(image, index, row),
+        _ => each_job(image, times, index, place, row),
     }
 }
 
 // The lowest row that says no to a question that is asked row by row.
-fn first_row(image: &[u8], times: &[u32], index: &[u32], number: u32) -> Found
-    requires { ⌜ Asking (now image) (now times) (now index) number × ((number ≢ 16) × (number ≢ 19)) ⌝ }
-    ensures { λ r. ⌜ r ≡ refusing (questionAt (streamQuestions (now (image .entry))) (number - 14)) ⌝ }
+fn first_row(image: &[u8], times: &[u32], index: &[u32], place: u32) -> Found
+    requires { ⌜ Asking (now image) (now times) (now index) place × RowAsked place ⌝ }
+    ensures { λ r. ⌜ r ≡ refusing (questionAt (streamQuestions (now (image .entry))) place) ⌝ }
 {
-    let rows = rows_of(image, table_of(number));
+    let asked = question_at(place);
+    let table = asked.table;
+    let rows = rows_of(image, table);
     let mut row: u32 = 0;
     while row < rows {
-        if !passes(image, times, index, number, row) {
+        if !passes(image, times, index, place, row) {
             return Found::At(row);
         }
         row += 1;
@@ -196,14 +240,14 @@ fn first_row(image: &[u8], times: &[u32], index: &[u32], number: u32) -> Found
 }
 
 // The lowest row that says no.
-fn first_no(image: &[u8], times: &[u32], index: &[u32], number: u32) -> Found
-    requires { ⌜ Asking (now image) (now times) (now index) number ⌝ }
-    ensures { λ r. ⌜ r ≡ refusing (questionAt (streamQuestions (now (image .entry))) (number - 14)) ⌝ }
+fn first_no(image: &[u8], times: &[u32], index: &[u32], place: u32) -> Found
+    requires { ⌜ Asking (now image) (now times) (now index) place ⌝ }
+    ensures { λ r. ⌜ r ≡ refusing (questionAt (streamQuestions (now (image .entry))) place) ⌝ }
 {
-    match number {
-        16 => first_unframed(image, index),
-        19 => first_clash(image, Occupant::Frame),
-        _ => first_row(image, times, index, number),
+    match place {
+        ONE_FRAME => first_unframed(image, index),
+        FRAME_CLEAR => first_clash(image, Occupant::Frame),
+        _ => first_row(image, times, index, place),
     }
 }
 
@@ -212,19 +256,15 @@ fn ask_all(image: &[u8], times: &[u32], index: &[u32]) -> Answer
     requires { ⌜ Sound (now image) × (Timed (now image) (now times) × Indexed (now image) (now index)) ⌝ }
     ensures { λ r. ⌜ r ≡ answerTo (streamQuestions (now (image .entry))) ⌝ }
 {
-    let mut number: u32 = 14;
-    while number <= 21 {
-        match first_no(image, times, index, number) {
+    let mut place: u32 = 0;
+    while place < QUESTIONS {
+        match first_no(image, times, index, place) {
             Found::At(row) => {
-                return Answer {
-                    number,
-                    table: shape_of(table_of(number)).number,
-                    row,
-                };
+                return refusal(question_at(place), row);
             }
             Found::Nothing => {}
         }
-        number += 1;
+        place += 1;
     }
     plan::accepted()
 }
@@ -234,7 +274,7 @@ pub fn ask(image: &[u8], times: &[u32]) -> Answer
     requires { ⌜ Sound (now image) × Timed (now image) (now times) ⌝ }
     ensures { λ r. ⌜ r ≡ answerTo (streamQuestions (now (image .entry))) ⌝ }
 {
-    let mut index = [0u32; 1088];
+    let mut index = [0u32; frames::WORDS];
     frames::gather(image, &mut index);
     ask_all(image, times, &index)
 }

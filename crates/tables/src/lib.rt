@@ -7,6 +7,8 @@ ghost use Rattle.plan.specs.declared.Table.the-variants.{Cores, Vcpus, Tasks, W
 ghost use Rattle.plan.specs.Image.{wordAt, shape, trailerBytes, trailerAt, cycleTicks, precision, offset, rows, tableEnd, part, field};
 ghost use Rattle.plan.specs.Image.{core, vcpu, task, window, piece, link, stream, frame, buffer, chain};
 ghost use Rattle.plan.specs.Held.{InImage};
+use plan::Answer;
+use plan::Asked;
 use plan::Buffer;
 use plan::Chain;
 use plan::Core;
@@ -74,6 +76,18 @@ pub fn shape_of(table: Table) -> Shape
             width: Chain::WORDS,
             most: Chain::MAX,
         },
+    }
+}
+
+// A no to a question, at a row of its table.
+pub fn refusal(asked: Asked, row: u32) -> Answer
+    ensures { λ r. ⌜ r ≡ record { number = asked .number; table = shape (asked .table) .number; row = row } ⌝ }
+{
+    let table = asked.table;
+    Answer {
+        number: asked.number,
+        table: shape_of(table).number,
+        row,
     }
 }
 

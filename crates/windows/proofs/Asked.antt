@@ -1,85 +1,37 @@
--- The questions 7 to 12, by number; and 13.
-use Prim.Native.Nat.{ℕ, _-_, _≤_}
-use mathlib.Core.Path.{_≡_, refl, sym}
-use mathlib.Core.Logic.{_⊎_, inl, inr, _≢_}
+-- What is left of a place in the list; and 13.
+use Prim.Native.Nat.{ℕ, _<_}
+use mathlib.Core.Path.{_≡_, sym}
+use mathlib.Core.Logic.{_≢_}
 use mathlib.Core.List.{List}
-use native.Mathlib.Decide.{ℕ-discrete}
 use native.Mathlib.Omega.{arith}
-use Rattle.plan.specs.declared.Found.the-variants.{At, Nothing}
+use Rattle.plan.specs.declared.Found.the-variants.{Nothing}
 use Rattle.plan.specs.declared.Table.the-variants.{Tasks}
-use Rattle.plan.specs.Image.{rows, shape}
+use Rattle.plan.specs.Image.{rows}
 use Rattle.plan.specs.Search.{firstNo}
+use Rattle.plan.specs.declared.Asked.{Asked}
 use Rattle.plan.specs.Questions.{questionAt, each, pieceQuestions, taskBudget, answerTo, accepted}
-use Rattle.plan.specs.Held.{Passed}
-use Rattle.plan.proofs.Asking.{between, passed-more, passed-all, stopped-at}
-use Rattle.windows.specs.Asking.{RowAsked, tableAsked}
+use Rattle.plan.specs.Held.{Passed, Listed}
+use Rattle.plan.proofs.Asking.{passed-more, passed-all, listed-some}
+use Rattle.plan.proofs.Numbers.{real-pieces}
+use Rattle.windows.specs.Asking.{RowAsked}
 
-pub record Asked (s : List ℕ) (n : ℕ) : Type 0 where
-  pub number : questionAt (pieceQuestions s) (n - 7) .asked ≡ n
-  pub table : questionAt (pieceQuestions s) (n - 7) .table ≡ shape (tableAsked n) .number
-  pub many : questionAt (pieceQuestions s) (n - 7) .many ≡ rows s (tableAsked n)
+-- of 7, 9 and 10 it is the last
+low : (i : ℕ) → i < 6 → i ≢ 4 → i ≢ 5 → i < 4
+low i l a b = omega (arith, l, a, b)
 
-pub asked : (s : List ℕ) (n : ℕ) → 7 ≤ n → n ≤ 12 → Asked s n
-unfolding questionAt each pieceQuestions tableAsked shape
-asked s n l m =
-    between (Asked s) 7 6 (
-      record { number = refl; table = refl; many = refl },
-      (
-        record { number = refl; table = refl; many = refl },
-        (
-          record { number = refl; table = refl; many = refl },
-          (
-            record { number = refl; table = refl; many = refl },
-            (
-              record { number = refl; table = refl; many = refl },
-              (record { number = refl; table = refl; many = refl }, tt),
-            ),
-          ),
-        ),
-      ),
-    )
-    n
-    l
-    (omega arith)
+three : (i : ℕ) → i < 4 → i ≢ 0 → i ≢ 1 → i ≢ 2 → i ≡ 3
+three i l a b d = omega (arith, l, a, b, d)
 
--- 7, 9 and 10
-pub row-range : (n : ℕ) → RowAsked n → (7 ≤ n) × (n ≤ 12)
-row-range n (inl e) = (omega arith, omega arith)
-row-range n (inr (inl e)) = (omega arith, omega arith)
-row-range n (inr (inr e)) = (omega arith, omega arith)
+pub last-row : (i : ℕ) → i < 6 → RowAsked i → i ≢ 0 → i ≢ 2 → i ≡ 3
+last-row i l r a b = three i (low i l (r .1 .0) (r .1 .1)) a (r .0) b
 
-pub last-row : (n : ℕ) → RowAsked n → n ≢ 7 → n ≢ 9 → n ≡ 10
-last-row n (inl e) a b = absurd (a e)
-last-row n (inr (inl e)) a b = absurd (b e)
-last-row n (inr (inr e)) a b = e
-
-pub is-row : (n : ℕ) → 7 ≤ n → n ≤ 12 → n ≢ 8 → n ≢ 11 → n ≢ 12 → RowAsked n
-is-row n l m a b c = go (low l a) (high m b c)
-  where
-    low : 7 ≤ n → n ≢ 8 → (n ≡ 7) ⊎ (9 ≤ n)
-    low l a = pick (ℕ-discrete n 7)
-      where
-        pick : Dec (n ≡ 7) → (n ≡ 7) ⊎ (9 ≤ n)
-        pick (yes e) = inl e
-        pick (no e) = inr (omega (arith, a, e))
-
-    high : n ≤ 12 → n ≢ 11 → n ≢ 12 → n ≤ 10
-    high m b c = omega (arith, b, c)
-
-    go : (n ≡ 7) ⊎ (9 ≤ n) → n ≤ 10 → RowAsked n
-    go (inl e) d = inl e
-    go (inr e) d = inr (pick (ℕ-discrete n 9))
-      where
-        pick : Dec (n ≡ 9) → (n ≡ 9) ⊎ (n ≡ 10)
-        pick (yes x) = inl x
-        pick (no x) = inr (omega (arith, x, e, d))
+-- a question that is listed has a number
+pub asked-some : (s : List ℕ) (i : ℕ) (a : Asked) → i < 7 → Listed pieceQuestions i a → a .number ≢ 0
+unfolding pieceQuestions
+asked-some s i a l = listed-some pieceQuestions s i a (real-pieces s) l
 
 -- 13
 module _ (s : List ℕ) (p : Passed (pieceQuestions s) 6) where
-  pub off-budget : (r : ℕ) → firstNo (rows s Tasks) (taskBudget s) ≡ At r → record { number = 13; table = shape Tasks .number; row = r } ≡ answerTo (pieceQuestions s)
-  unfolding pieceQuestions questionAt each
-  off-budget r e = stopped-at (pieceQuestions s) 6 r 13 _ p (omega arith) e refl refl
-
   pub all-pass : firstNo (rows s Tasks) (taskBudget s) ≡ Nothing → Passed (pieceQuestions s) 7
   unfolding pieceQuestions questionAt each
   all-pass e = passed-more (pieceQuestions s) 6 p e

@@ -1,23 +1,23 @@
--- What this crate's own functions give, in the words of the definitions.
-use Prim.Native.Nat.{ℕ}
+-- What this crate's own functions assume and give, in the words of the definitions.
+use Prim.Native.Nat.{ℕ, _<_}
 use mathlib.Core.Path.{_≡_}
-use mathlib.Core.Logic.{_⊎_, _≢_}
-use mathlib.Core.Bool.{cond}
+use mathlib.Core.Logic.{_≢_}
 use mathlib.Core.List.{List}
-use lib.Dec.{eqb}
 use Rattle.plan.specs.declared.Answer.{Answer}
-use Rattle.plan.specs.declared.Table.{Table}
-use Rattle.plan.specs.declared.Table.the-variants.{Tasks, Windows, Pieces}
-use Rattle.plan.specs.Questions.{Question, answerTo}
-use Rattle.plan.specs.Held.{Passed}
+use Rattle.plan.specs.Questions.{Question, pieceQuestions, answerTo}
+use Rattle.plan.specs.Held.{Sound, Passed}
+use Rattle.charges.specs.Charges.{Charged}
 
--- a question that asks of a row by itself
+-- what is known where question i of the list is asked, 7 to 12
+pub record Asking (s charges : List ℕ) (i : ℕ) : Type 0 where
+  pub sound : Sound s
+  pub charged : Charged s charges
+  pub listed : i < 6
+  pub passed : Passed (pieceQuestions s) i
+
+-- one that asks of a row by itself: not 8, 11 or 12
 abbrev pub RowAsked : ℕ → Type 0
-RowAsked n = (n ≡ 7) ⊎ ((n ≡ 9) ⊎ (n ≡ 10))
-
--- the table that a question from 7 to 12 asks over
-unfoldable pub tableAsked : ℕ → Table
-tableAsked n = cond (eqb n 7) Windows (cond (eqb n 8) Windows (cond (eqb n 9) Tasks Pieces))
+RowAsked i = (i ≢ 1) × ((i ≢ 4) × (i ≢ 5))
 
 -- the first i questions are asked: all are passed, or the answer is the first that is not
 pub record AskedTo (qs : List Question) (i : ℕ) (a : Answer) : Type 0 where

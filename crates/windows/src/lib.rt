@@ -1,26 +1,27 @@
 // Questions 7 to 13 (paper 01, "The questions"): windows, tasks and pieces.
 ghost use mathlib.Core.Path.{_≡_};
-ghost use Prim.Native.Nat.{_-_, _<_, _≤_};
+ghost use Prim.Native.Nat.{_<_};
 ghost use lib.ListN.{length};
 ghost use Rattle.plan.specs.declared.Table.the-variants.{Tasks, Windows, Pieces};
 ghost use Rattle.plan.specs.Image.{rows};
 ghost use Rattle.plan.specs.Questions.{windowFits, maskAllows, pieceFits, questionAt, pieceQuestions, answerTo};
-ghost use Rattle.plan.specs.Held.{Sound, Passed, refusing};
+ghost use Rattle.plan.specs.Held.{Sound, Passed, Listed, refusing};
 ghost use Rattle.charges.specs.Charges.{Charged};
-ghost use Rattle.jobs.specs.Times.{Timed};
-ghost use Rattle.windows.specs.Asking.{RowAsked, tableAsked, AskedTo};
+ghost use Rattle.jobs.specs.Times.{timesWords, Timed};
+ghost use Rattle.windows.specs.Asking.{Asking, RowAsked, AskedTo};
 use charges::charge_at;
 use clashes::first_clash;
 use inside::first_outside;
 use jobs::first_off_budget;
 use places::Occupant;
 use plan::Answer;
+use plan::Asked;
 use plan::Found;
 use plan::Table;
 use tables::cycle_ticks;
 use tables::piece_at;
+use tables::refusal;
 use tables::rows_of;
-use tables::shape_of;
 use tables::task_at;
 use tables::window_at;
 use terms::core_of;
@@ -62,40 +63,82 @@ fn piece_fits(image: &[u8], piece: u32) -> bool
     exists & long & starts & ends
 }
 
-// Does a row pass question 7, 9 or 10, each of which asks of a row by itself?
-fn passes(image: &[u8], charges: &[u32], number: u32, row: u32) -> bool
-    requires { ⌜ Sound (now image) × (RowAsked number × Charged (now image) (now charges)) ⌝ }
-    requires { ⌜ row < questionAt (pieceQuestions (now image)) (number - 7) .many ⌝ }
-    ensures { λ r. ⌜ r ≡ questionAt (pieceQuestions (now (image .entry))) (number - 7) .ok row ⌝ }
+// The questions, by their place in the list.
+const WINDOW_FITS: u32 = 0;
+
+const WINDOW_CLEAR: u32 = 1;
+
+const MASK_ALLOWS: u32 = 2;
+
+const PIECE_FITS: u32 = 3;
+
+const PIECE_INSIDE: u32 = 4;
+
+const PIECE_CLEAR: u32 = 5;
+
+const TASK_BUDGET: u32 = 6;
+
+// The list: each question's number and table, in the order asked.
+fn question_at(place: u32) -> Asked
+    requires { ⌜ place < 7 ⌝ }
+    ensures { λ r. ⌜ Listed pieceQuestions place r ⌝ }
 {
-    match number {
-        7 => window_fits(image, charges, row),
-        9 => mask_allows(image, row),
+    match place {
+        WINDOW_FITS => Asked {
+            number: 7,
+            table: Table::Windows,
+        },
+        WINDOW_CLEAR => Asked {
+            number: 8,
+            table: Table::Windows,
+        },
+        MASK_ALLOWS => Asked {
+            number: 9,
+            table: Table::Tasks,
+        },
+        PIECE_FITS => Asked {
+            number: 10,
+            table: Table::Pieces,
+        },
+        PIECE_INSIDE => Asked {
+            number: 11,
+            table: Table::Pieces,
+        },
+        PIECE_CLEAR => Asked {
+            number: 12,
+            table: Table::Pieces,
+        },
+        _ => Asked {
+            number: 13,
+            table: Table::Tasks,
+        },
+    }
+}
+
+// Does a row pass question 7, 9 or 10, each of which asks of a row by itself?
+fn passes(image: &[u8], charges: &[u32], place: u32, row: u32) -> bool
+    requires { ⌜ Asking (now image) (now charges) place × RowAsked place ⌝ }
+    requires { ⌜ row < questionAt (pieceQuestions (now image)) place .many ⌝ }
+    ensures { λ r. ⌜ r ≡ questionAt (pieceQuestions (now (image .entry))) place .ok row ⌝ }
+{
+    match place {
+        WINDOW_FITS => window_fits(image, charges, row),
+        MASK_ALLOWS => mask_allows(image, row),
         _ => piece_fits(image, row),
     }
 }
 
-// The table that a question asks over.
-fn table_of(number: u32) -> Table
-    ensures { λ r. ⌜ r ≡ tableAsked number ⌝ }
-{
-    match number {
-        7 => Table::Windows,
-        8 => Table::Windows,
-        9 => Table::Tasks,
-        _ => Table::Pieces,
-    }
-}
-
 // 7, 9 or 10: the lowest row that says no.
-fn first_row(image: &[u8], charges: &[u32], number: u32) -> Found
-    requires { ⌜ Sound (now image) × (RowAsked number × Charged (now image) (now charges)) ⌝ }
-    ensures { λ r. ⌜ r ≡ refusing (questionAt (pieceQuestions (now (image .entry))) (number - 7)) ⌝ }
+fn first_row(image: &[u8], charges: &[u32], place: u32) -> Found
+    requires { ⌜ Asking (now image) (now charges) place × RowAsked place ⌝ }
+    ensures { λ r. ⌜ r ≡ refusing (questionAt (pieceQuestions (now (image .entry))) place) ⌝ }
 {
-    let rows = rows_of(image, table_of(number));
+    let asked = question_at(place);
+    let table = asked.table;
+    let rows = rows_of(image, table);
     let mut row: u32 = 0;
     while row < rows {
-        if !passes(image, charges, number, row) {
+        if !passes(image, charges, place, row) {
             return Found::At(row);
         }
         row += 1;
@@ -104,16 +147,15 @@ fn first_row(image: &[u8], charges: &[u32], number: u32) -> Found
 }
 
 // The lowest row that says no to question 7 to 12.
-fn first_no(image: &[u8], charges: &[u32], number: u32) -> Found
-    requires { ⌜ Sound (now image) × ((7 ≤ number) × (number ≤ 12)) ⌝ }
-    requires { ⌜ Charged (now image) (now charges) × Passed (pieceQuestions (now image)) (number - 7) ⌝ }
-    ensures { λ r. ⌜ r ≡ refusing (questionAt (pieceQuestions (now (image .entry))) (number - 7)) ⌝ }
+fn first_no(image: &[u8], charges: &[u32], place: u32) -> Found
+    requires { ⌜ Asking (now image) (now charges) place ⌝ }
+    ensures { λ r. ⌜ r ≡ refusing (questionAt (pieceQuestions (now (image .entry))) place) ⌝ }
 {
-    match number {
-        8 => first_clash(image, Occupant::Window),
-        11 => first_outside(image, charges),
-        12 => first_clash(image, Occupant::Piece),
-        _ => first_row(image, charges, number),
+    match place {
+        WINDOW_CLEAR => first_clash(image, Occupant::Window),
+        PIECE_INSIDE => first_outside(image, charges),
+        PIECE_CLEAR => first_clash(image, Occupant::Piece),
+        _ => first_row(image, charges, place),
     }
 }
 
@@ -122,45 +164,37 @@ fn ask_pieces(image: &[u8], charges: &[u32]) -> Answer
     requires { ⌜ Sound (now image) × Charged (now image) (now charges) ⌝ }
     ensures { λ r. ⌜ AskedTo (pieceQuestions (now (image .entry))) 6 r ⌝ }
 {
-    let mut number: u32 = 7;
-    while number <= 12 {
-        match first_no(image, charges, number) {
+    let mut place: u32 = 0;
+    while place < TASK_BUDGET {
+        match first_no(image, charges, place) {
             Found::At(row) => {
-                return Answer {
-                    number,
-                    table: shape_of(table_of(number)).number,
-                    row,
-                };
+                return refusal(question_at(place), row);
             }
             Found::Nothing => {}
         }
-        number += 1;
+        place += 1;
     }
     plan::accepted()
 }
 
 // Question 13. The times of all jobs are gathered for it.
 fn ask_budgets(image: &[u8], times: &mut [u32]) -> Answer
-    requires { ⌜ Sound (now image) × (Passed (pieceQuestions (now image)) 6 × (length (now times) ≡ 6400)) ⌝ }
+    requires { ⌜ Sound (now image) × (Passed (pieceQuestions (now image)) 6 × (length (now times) ≡ timesWords)) ⌝ }
     ensures { λ r. ⌜ (r ≡ answerTo (pieceQuestions (now (image .entry)))) × ((r .number ≡ 0) → Timed (now (image .entry)) (now (times .exit))) ⌝ }
 {
     jobs::gather(image, times);
     match first_off_budget(image, times) {
-        Found::At(row) => Answer {
-            number: 13,
-            table: shape_of(Table::Tasks).number,
-            row,
-        },
+        Found::At(row) => refusal(question_at(TASK_BUDGET), row),
         Found::Nothing => plan::accepted(),
     }
 }
 
 // Questions 7 to 13. Where all are answered yes, the times are those of the plan's jobs.
 pub fn ask(image: &[u8], times: &mut [u32]) -> Answer
-    requires { ⌜ Sound (now image) × (length (now times) ≡ 6400) ⌝ }
+    requires { ⌜ Sound (now image) × (length (now times) ≡ timesWords) ⌝ }
     ensures { λ r. ⌜ (r ≡ answerTo (pieceQuestions (now (image .entry)))) × ((r .number ≡ 0) → Timed (now (image .entry)) (now (times .exit))) ⌝ }
 {
-    let mut charges = [0u32; 1024];
+    let mut charges = [0u32; charges::WORDS];
     charges::gather(image, &mut charges);
     let pieces = ask_pieces(image, &charges);
     if pieces.number != 0 {

@@ -16,7 +16,7 @@ module _ (image : List ℕ) where
   unfoldable pub allTables : List ℕ
   allTables = tablesBelow image (lanes image)
 
-  -- building all of them: 1 to 24 and 29 to 32, then 26 of them together
+  -- building all of them: the check's questions, then 26 of them together
   unfoldable pub allAnswer : List ℕ → Answer
   allAnswer b = answerTo (questions image ++ whole 26 (leb (length allTables) (length b / 4)) ∷ [])
 

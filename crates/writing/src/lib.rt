@@ -107,7 +107,7 @@ fn fill(image: &[u8], charges: &[u32], index: &[u32], lane: u32, bytes: &mut [u8
     plan::accepted()
 }
 
-// Builds a lane's table: asks 1 to 24 and 29 to 32, then 25 and 26, and writes H, n and the entries from byte 0 on. Later bytes, and all bytes
+// Builds a lane's table: asks the check's questions, then 25 and 26, and writes H, n and the entries from byte 0 on. Later bytes, and all bytes
 // after a refusal, stay as they are.
 pub fn build(image: &[u8], lane: u32, bytes: &mut [u8]) -> Answer
     ensures { λ r. ⌜ Built (now (image .entry)) lane (now (bytes .entry)) r (now (bytes .exit)) ⌝ }
@@ -123,8 +123,8 @@ pub fn build(image: &[u8], lane: u32, bytes: &mut [u8]) -> Answer
             row: 0,
         };
     }
-    let mut charges = [0u32; 1024];
-    let mut index = [0u32; 3776];
+    let mut charges = [0u32; lanes::CHARGES];
+    let mut index = [0u32; lanes::INDEX];
     lanes::gather(image, &mut charges, &mut index);
     fill(image, &charges, &index, lane, bytes)
 }
@@ -175,7 +175,7 @@ fn fill_all(image: &[u8], charges: &[u32], index: &[u32], bytes: &mut [u8]) -> A
     plan::accepted()
 }
 
-// Builds the tables of all lanes, lanes rising: asks 1 to 24 and 29 to 32 once, then 26 of all words together. Later bytes, and all bytes
+// Builds the tables of all lanes, lanes rising: asks the check's questions once, then 26 of all words together. Later bytes, and all bytes
 // after a refusal, stay as they are.
 pub fn build_all(image: &[u8], bytes: &mut [u8]) -> Answer
     ensures { λ r. ⌜ BuiltAll (now (image .entry)) (now (bytes .entry)) r (now (bytes .exit)) ⌝ }
@@ -184,8 +184,8 @@ pub fn build_all(image: &[u8], bytes: &mut [u8]) -> Answer
     if checked.number != 0 {
         return checked;
     }
-    let mut charges = [0u32; 1024];
-    let mut index = [0u32; 3776];
+    let mut charges = [0u32; lanes::CHARGES];
+    let mut index = [0u32; lanes::INDEX];
     lanes::gather(image, &mut charges, &mut index);
     fill_all(image, &charges, &index, bytes)
 }

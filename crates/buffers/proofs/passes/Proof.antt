@@ -21,22 +21,22 @@ reader-waits-requires c κs = let p = c .before .before .before .pre in let e = 
 
 -- src/lib.rt:177:14
 hold-clear-requires : tie.Need-hold-clear-requires
-hold-clear-requires c κs = let p = c .before .before .before .pre in let r = c .match .rest in let n : 23 ≤ c .before .before .before .args .number = omega (arith, r .0 .1, p .1 .0 .0) in (p .0, (p .1 .1 .1, λ j l. p .1 .1 .0 j (omega arith)))
+hold-clear-requires c κs = let p = c .before .before .before .pre in let r = c .match .rest in let n : 1 ≤ c .before .before .before .args .place = omega (arith, r .0 .1) in (p .0, (p .1 .1 .1, λ j l. p .1 .1 .0 j (omega arith)))
 
 -- src/lib.rt:169:1
 returns : tie.Need-returns
 unfolding questionAt each bufferQuestions
-returns c = let a = c .before .before .before .before .args in let s = a .image .now in c .buffer-ends .ensures ∙ sym (ap (λ (n : ℕ). questionAt (bufferQuestions s) (n - 22) .ok (a .row)) (c .before .match .keys1))
+returns c = let a = c .before .before .before .before .args in let s = a .image .now in c .buffer-ends .ensures ∙ sym (ap (λ (n : ℕ). questionAt (bufferQuestions s) n .ok (a .row)) (c .before .match .keys1))
 
 -- src/lib.rt:169:1
 returns-2 : tie.Need-returns-2
 unfolding questionAt each bufferQuestions
-returns-2 c = let a = c .before .before .before .before .args in let s = a .image .now in c .reader-waits .ensures ∙ sym (ap (λ (n : ℕ). questionAt (bufferQuestions s) (n - 22) .ok (a .row)) (c .before .match .keys2))
+returns-2 c = let a = c .before .before .before .before .args in let s = a .image .now in c .reader-waits .ensures ∙ sym (ap (λ (n : ℕ). questionAt (bufferQuestions s) n .ok (a .row)) (c .before .match .keys2))
 
 -- src/lib.rt:169:1
 returns-3 : tie.Need-returns-3
 unfolding questionAt each bufferQuestions
-returns-3 c = let a = c .before .before .before .before .args in let s = a .image .now in let p = c .before .before .before .before .pre in let r = c .before .match .rest in let e : a .number ≡ 24 = omega (arith, r .0 .1, r .1, p .1 .0 .0, p .1 .0 .1) in c .hold-clear .ensures ∙ sym (ap (λ (n : ℕ). questionAt (bufferQuestions s) (n - 22) .ok (a .row)) e)
+returns-3 c = let a = c .before .before .before .before .args in let s = a .image .now in let p = c .before .before .before .before .pre in let r = c .before .match .rest in let e : a .place ≡ 2 = omega (arith, r .0 .1, r .1, p .1 .0) in c .hold-clear .ensures ∙ sym (ap (λ (n : ℕ). questionAt (bufferQuestions s) n .ok (a .row)) e)
 
 pub passes-spec : {M : Type 1} → statement M
 passes-spec =

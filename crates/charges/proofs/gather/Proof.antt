@@ -5,6 +5,7 @@ use Rattle.charges.proofs.gather.Tie as tie
 use Rattle.charges.proofs.gather.Reads as reads
 use Rattle.charges.proofs.gather.Lts as lts
 use Rattle.charges.proofs.gather_after.Reads as gather-after-reads
+use Rattle.plan.specs.Image.{mostVcpus}
 
 -- src/lib.rt:66:34
 slice-aggregate-gather-after : tie.Need-slice-aggregate-gather-after
@@ -12,7 +13,7 @@ slice-aggregate-gather-after c = search needs
 
 -- src/lib.rt:66:5
 gather-after-requires : tie.Need-gather-after-requires
-gather-after-requires c κs = let p = c .before .before .before .before .pre in (p .0, (p .1, kept-fresh 64 0))
+gather-after-requires c κs = let p = c .before .before .before .before .pre in (p .0, (p .1, kept-fresh mostVcpus 0))
 
 -- src/lib.rt:61:1
 same-length : tie.Need-same-length

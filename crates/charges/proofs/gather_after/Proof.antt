@@ -4,7 +4,7 @@ use mathlib.Core.Path.{_≡_, refl, sym, subst, _∙_}
 use native.Mathlib.Omega.{arith}
 use lib.ListN.{length}
 use Rattle.plan.specs.declared.Table.the-variants.{Windows}
-use Rattle.plan.specs.Image.{rows, shape}
+use Rattle.plan.specs.Image.{rows, shape, mostVcpus}
 use Rattle.tallies.specs.Tallies.{Kept}
 use Rattle.charges.specs.Charges.{endsBefore, ChargedTo}
 use Rattle.charges.proofs.Charging.{charged-none, charged-more}
@@ -20,7 +20,7 @@ use Rattle.tallies.proofs.raise.Reads as raise-reads
 use Rattle.terms.proofs.window_end.Reads as window-end-reads
 
 abbrev Inv-loop : tie.InvT-loop
-Inv-loop image charges₀ ends₀ windows window₀ charges ends window = (window ≤ windows) × (windows ≡ rows image Windows) × (length ends ≡ length ends₀) × ChargedTo image charges window × Kept ends 0 64 (endsBefore image window)
+Inv-loop image charges₀ ends₀ windows window₀ charges ends window = (window ≤ windows) × (windows ≡ rows image Windows) × (length ends ≡ length ends₀) × ChargedTo image charges window × Kept ends 0 mostVcpus (endsBefore image window)
 
 abbrev μ-loop : tie.MeasureT-loop
 μ-loop image charges₀ ends₀ windows window₀ charges ends window = windows - window

@@ -21,9 +21,10 @@ use Rattle.places.proofs.table_for.Reads as table-for-reads
 use Rattle.places.proofs.to_of.Reads as to-of-reads
 use Rattle.tables.proofs.rows_of.Reads as rows-of-reads
 use Rattle.tallies.proofs.raise.Reads as raise-reads
+use Rattle.places.specs.Index.{mostPlaces}
 
 abbrev Inv-loop : tie.InvT-loop
-Inv-loop image occupant ends₀ rows row₀ ends row = (row ≤ rows) × (rows ≡ Image.rows image (tableFor occupant)) × (length ends ≡ length ends₀) × Kept ends 0 64 (latest (placeOf image occupant) (toOf image occupant) row) × (firstNo row (clearOf image occupant) ≡ Nothing)
+Inv-loop image occupant ends₀ rows row₀ ends row = (row ≤ rows) × (rows ≡ Image.rows image (tableFor occupant)) × (length ends ≡ length ends₀) × Kept ends 0 mostPlaces (latest (placeOf image occupant) (toOf image occupant) row) × (firstNo row (clearOf image occupant) ≡ Nothing)
 
 abbrev μ-loop : tie.MeasureT-loop
 μ-loop image occupant ends₀ rows row₀ ends row = rows - row

@@ -3,8 +3,8 @@ use mathlib.Core.Path.{_≡_, sym, ap, subst, _∙_}
 use native.Mathlib.Omega.{arith}
 use lib.ListN.{length, length-replicate}
 use Rattle.plan.specs.declared.Table.the-variants.{Streams}
-use Rattle.plan.specs.Image.{rows, shape}
-use Rattle.frames.specs.Index.{begins}
+use Rattle.plan.specs.Image.{rows, shape, mostStreams}
+use Rattle.frames.specs.Index.{begins, frameWords}
 use Rattle.frames.proofs.Gathering.{Begun, begins-none, begins-more, begun-none, begins-most, begun-more, taken-none}
 use Rattle.frames.proofs.place_streams.Statement.{statement}
 use Rattle.frames.proofs.place_streams.Tie as tie
@@ -15,7 +15,7 @@ use Rattle.frames.proofs.span_of.Reads as span-of-reads
 use Rattle.tables.proofs.rows_of.Reads as rows-of-reads
 
 abbrev Inv-loop : tie.InvT-loop
-Inv-loop image index₀ streams place₀ stream₀ index place stream = (stream ≤ streams) × (streams ≤ 64) × (place ≡ begins image stream) × Begun image index stream
+Inv-loop image index₀ streams place₀ stream₀ index place stream = (stream ≤ streams) × (streams ≤ mostStreams) × (place ≡ begins image stream) × Begun image index stream
 
 abbrev μ-loop : tie.MeasureT-loop
 μ-loop image index₀ streams place₀ stream₀ index place stream = streams - stream
@@ -75,7 +75,7 @@ loop-again c = let l = c .before .before .before .loop in let s = c .before .bef
 
 -- src/lib.rt:41:1
 same-length : tie.Need-same-length Inv-loop μ-loop
-same-length c = let z : ℕ = 0 in c .before .loop .inv .3 .size ∙ sym (ap length (c .before .before .before .before .before .pre .1) ∙ length-replicate 1088 z)
+same-length c = let z : ℕ = 0 in c .before .loop .inv .3 .size ∙ sym (ap length (c .before .before .before .before .before .pre .1) ∙ length-replicate frameWords z)
 
 -- src/lib.rt:41:1
 returns : tie.Need-returns Inv-loop μ-loop

@@ -13,6 +13,7 @@ use Rattle.frames.proofs.take_in.Lts as lts
 use Rattle.frames.proofs.place_of.Reads as place-of-reads
 use Rattle.frames.proofs.take_at.Reads as take-at-reads
 use Rattle.tables.proofs.frame_at.Reads as frame-at-reads
+use Rattle.plan.specs.Image.{mostFrames}
 
 -- src/lib.rt:81:9
 frame-at-requires : tie.Need-frame-at-requires
@@ -37,7 +38,7 @@ same-length c = search needs
 -- src/lib.rt:76:1
 returns : tie.Need-returns
 unfolding framePlace
-returns c = let a = c .before .before .before .before .before .before .before .before .before .before .args in let p = c .before .before .before .before .before .before .before .before .before .before .pre in let s = a .image .now in let q : c .before .before .before .before .before .place-of .result ≡ min 512 (framePlace s (a .frame)) = c .before .before .before .before .before .place-of .ensures ∙ ap (λ (x : Frame). min 512 (place s (x .stream) (x .job) (x .hop))) (c .before .before .before .before .before .before .before .frame-at .ensures) in let t = c .before .before .before .before .if1 .taken in let e = capped-is _ _ q t in rw (c .before .before .take-at .ensures, e) (taken-in s (a .index .now) (a .frame) (p .0 .0) (p .1) (rw (← e) t))
+returns c = let a = c .before .before .before .before .before .before .before .before .before .before .args in let p = c .before .before .before .before .before .before .before .before .before .before .pre in let s = a .image .now in let q : c .before .before .before .before .before .place-of .result ≡ min mostFrames (framePlace s (a .frame)) = c .before .before .before .before .before .place-of .ensures ∙ ap (λ (x : Frame). min mostFrames (place s (x .stream) (x .job) (x .hop))) (c .before .before .before .before .before .before .before .frame-at .ensures) in let t = c .before .before .before .before .if1 .taken in let e = capped-is _ _ q t in rw (c .before .before .take-at .ensures, e) (taken-in s (a .index .now) (a .frame) (p .0 .0) (p .1) (rw (← e) t))
 
 -- src/lib.rt:76:1
 same-length-2 : tie.Need-same-length-2
@@ -46,7 +47,7 @@ same-length-2 c = search needs
 -- src/lib.rt:76:1
 returns-2 : tie.Need-returns-2
 unfolding framePlace
-returns-2 c = let a = c .before .before .before .before .before .before .args in let p = c .before .before .before .before .before .before .pre in let s = a .image .now in let q : c .before .place-of .result ≡ min 512 (framePlace s (a .frame)) = c .before .place-of .ensures ∙ ap (λ (x : Frame). min 512 (place s (x .stream) (x .job) (x .hop))) (c .before .before .before .frame-at .ensures) in taken-past s (a .index .now) (a .frame) (p .0 .0) (p .1) (capped-past _ _ q (λ l. absurd (omega (arith, c .if1 .left))))
+returns-2 c = let a = c .before .before .before .before .before .before .args in let p = c .before .before .before .before .before .before .pre in let s = a .image .now in let q : c .before .place-of .result ≡ min mostFrames (framePlace s (a .frame)) = c .before .place-of .ensures ∙ ap (λ (x : Frame). min mostFrames (place s (x .stream) (x .job) (x .hop))) (c .before .before .before .frame-at .ensures) in taken-past s (a .index .now) (a .frame) (p .0 .0) (p .1) (capped-past _ _ q (λ l. absurd (omega (arith, c .if1 .left))))
 
 pub take-in-spec : {M : Type 1} → statement M
 take-in-spec =

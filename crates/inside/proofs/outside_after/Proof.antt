@@ -9,7 +9,7 @@ use lib.ListN.{length, getD}
 use Rattle.plan.specs.declared.Found.the-variants.{Nothing}
 use Rattle.plan.specs.declared.Piece.{Piece}
 use Rattle.plan.specs.declared.Table.the-variants.{Windows, Pieces}
-use Rattle.plan.specs.Image.{rows, piece}
+use Rattle.plan.specs.Image.{rows, piece, mostVcpus}
 use Rattle.plan.specs.Search.{firstNo}
 use Rattle.plan.specs.Questions.{pieceInside}
 use Rattle.plan.proofs.Searching.{turn-yes, stops}
@@ -27,7 +27,7 @@ use Rattle.tables.proofs.piece_at.Reads as piece-at-reads
 use Rattle.tables.proofs.rows_of.Reads as rows-of-reads
 
 abbrev Inv-loop : tie.InvT-loop
-Inv-loop image charges last₀ pieces window₀ piece₀ last window piece = (piece ≤ pieces) × (pieces ≡ rows image Pieces) × (length last ≡ length last₀) × (window ≤ rows image Windows) × Kept last 0 64 (holders image window) × Led image window piece × (firstNo piece (pieceInside image) ≡ Nothing)
+Inv-loop image charges last₀ pieces window₀ piece₀ last window piece = (piece ≤ pieces) × (pieces ≡ rows image Pieces) × (length last ≡ length last₀) × (window ≤ rows image Windows) × Kept last 0 mostVcpus (holders image window) × Led image window piece × (firstNo piece (pieceInside image) ≡ Nothing)
 
 abbrev μ-loop : tie.MeasureT-loop
 μ-loop image charges last₀ pieces window₀ piece₀ last window piece = pieces - piece

@@ -6,7 +6,7 @@ use lib.ListN.{length, length-set}
 use Rattle.plan.specs.declared.Window.{Window}
 use Rattle.plan.specs.declared.Table.the-variants.{Windows}
 use Rattle.plan.specs.Image as Image
-use Rattle.plan.specs.Image.{rows, window}
+use Rattle.plan.specs.Image.{rows, window, mostVcpus}
 use Rattle.tallies.specs.Tallies.{Kept}
 use Rattle.inside.specs.Holders.{holders, Starting}
 use Rattle.inside.proofs.Holding.{vcpu-inside, held-on, starting-on}
@@ -18,7 +18,7 @@ use Rattle.tables.proofs.rows_of.Reads as rows-of-reads
 use Rattle.tables.proofs.window_at.Reads as window-at-reads
 
 abbrev Inv-loop : tie.InvT-loop
-Inv-loop image last₀ from tick windows window₀ last window = (window ≤ windows) × (windows ≡ Image.rows image Windows) × (length last ≡ length last₀) × Kept last 0 64 (holders image window) × Starting image tick window
+Inv-loop image last₀ from tick windows window₀ last window = (window ≤ windows) × (windows ≡ Image.rows image Windows) × (length last ≡ length last₀) × Kept last 0 mostVcpus (holders image window) × Starting image tick window
 
 abbrev μ-loop : tie.MeasureT-loop
 μ-loop image last₀ from tick windows window₀ last window = windows - window

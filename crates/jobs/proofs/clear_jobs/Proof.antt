@@ -8,12 +8,13 @@ use Rattle.jobs.proofs.clear_jobs.Statement.{statement}
 use Rattle.jobs.proofs.clear_jobs.Tie as tie
 use Rattle.jobs.proofs.clear_jobs.Reads as reads
 use Rattle.jobs.proofs.clear_jobs.Lts as lts
+use Rattle.plan.specs.Image.{mostPieces}
 
 abbrev Inv-loop : tie.InvT-loop
-Inv-loop times₀ cycle place₀ times place = (place ≤ 2048) × (length times ≡ length times₀) × Cleared cycle times place
+Inv-loop times₀ cycle place₀ times place = (place ≤ mostPieces) × (length times ≡ length times₀) × Cleared cycle times place
 
 abbrev μ-loop : tie.MeasureT-loop
-μ-loop times₀ cycle place₀ times place = 2048 - place
+μ-loop times₀ cycle place₀ times place = mostPieces - place
 
 -- src/lib.rt:67:5
 loop-holds : tie.Need-loop-holds Inv-loop μ-loop
@@ -73,7 +74,7 @@ same-length c = c .before .loop .inv .1
 
 -- src/lib.rt:62:1
 returns : tie.Need-returns Inv-loop μ-loop
-returns c = let l = c .before .loop in let e : l .place ≡ 2048 = omega arith in subst (Cleared (c .before .before .args .cycle) (l .times)) e (l .inv .2)
+returns c = let l = c .before .loop in let e : l .place ≡ mostPieces = omega arith in subst (Cleared (c .before .before .args .cycle) (l .times)) e (l .inv .2)
 
 pub clear-jobs-spec : {M : Type 1} → statement M
 clear-jobs-spec =

@@ -10,6 +10,7 @@ use Rattle.jobs.proofs.clear_jobs.Reads as clear-jobs-reads
 use Rattle.jobs.proofs.place_tasks.Reads as place-tasks-reads
 use Rattle.jobs.proofs.take_all.Reads as take-all-reads
 use Rattle.tables.proofs.cycle_ticks.Reads as cycle-ticks-reads
+use Rattle.plan.specs.Image.{mostPieces}
 
 -- src/lib.rt:122:9
 cycle-ticks-requires : tie.Need-cycle-ticks-requires
@@ -21,7 +22,7 @@ clear-jobs-requires c κs = search needs
 
 -- src/lib.rt:124:5
 place-tasks-requires : tie.Need-place-tasks-requires
-place-tasks-requires c κs = let p = c .before .before .before .before .before .before .before .before .pre in (p .0, subst (λ (h : ℕ). Cleared h (c .before .before .before .clear-jobs .last .0) 2048) (c .before .before .before .before .before .cycle-ticks .ensures) (c .before .before .before .clear-jobs .ensures))
+place-tasks-requires c κs = let p = c .before .before .before .before .before .before .before .before .pre in (p .0, subst (λ (h : ℕ). Cleared h (c .before .before .before .clear-jobs .last .0) mostPieces) (c .before .before .before .before .before .cycle-ticks .ensures) (c .before .before .before .clear-jobs .ensures))
 
 -- src/lib.rt:125:5
 take-all-requires : tie.Need-take-all-requires

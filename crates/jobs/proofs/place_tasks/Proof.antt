@@ -11,7 +11,7 @@ use Rattle.jobs.proofs.place_tasks.Statement.{statement}
 use Rattle.jobs.proofs.place_tasks.Tie as tie
 use Rattle.jobs.proofs.place_tasks.Reads as reads
 use Rattle.jobs.proofs.place_tasks.Lts as lts
-use Rattle.jobs.proofs.lesser.Reads as lesser-reads
+use Rattle.tallies.proofs.lesser.Reads as lesser-reads
 use Rattle.tables.proofs.rows_of.Reads as rows-of-reads
 use Rattle.terms.proofs.jobs_of.Reads as jobs-of-reads
 

@@ -7,8 +7,8 @@ use Rattle.jobs.proofs.take_at.Statement.{statement}
 use Rattle.jobs.proofs.take_at.Tie as tie
 use Rattle.jobs.proofs.take_at.Reads as reads
 use Rattle.jobs.proofs.take_at.Lts as lts
-use Rattle.jobs.proofs.greater.Reads as greater-reads
-use Rattle.jobs.proofs.lesser.Reads as lesser-reads
+use Rattle.tallies.proofs.greater.Reads as greater-reads
+use Rattle.tallies.proofs.lesser.Reads as lesser-reads
 
 -- src/lib.rt:80:30
 add-lesser : tie.Need-add-lesser

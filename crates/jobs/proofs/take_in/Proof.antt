@@ -4,7 +4,7 @@ use native.Mathlib.Omega.{arith}
 use lib.ListN.{getD}
 use Rattle.plan.specs.declared.Piece.{Piece}
 use Rattle.plan.specs.declared.Table.the-variants.{Tasks}
-use Rattle.plan.specs.Image.{shape}
+use Rattle.plan.specs.Image.{shape, mostPieces}
 use Rattle.plan.proofs.Passing.{piece-ends}
 use Rattle.jobs.specs.Times.{piecePlace}
 use Rattle.jobs.proofs.Gathering.{task-exists, task-word, at-is, at-fits, switch-less, work-is, work-fits, taken-in, passed-over}
@@ -65,7 +65,7 @@ sub-work c = let a = c .before .before .before .before .before .before .before .
 
 -- src/lib.rt:99:9
 take-at-requires : tie.Need-take-at-requires
-take-at-requires c κs = let a = c .before .before .before .before .before .before .before .before .before .before .before .args in let s = a .image .now in let ts = a .times .now in let p = c .before .before .before .before .before .before .before .before .before .before .before .pre in let h = p .0 .0 in let q = p .0 .1 .0 in let l = p .0 .1 .1 in let g = p .1 in let z = g .placed .size in let e = c .before .before .before .before .before .before .before .before .piece-at .ensures in let f = ap (λ (x : Piece). getD ts (x .task) 0 + x .job) e ∙ at-is s ts h 6 q (omega arith) (a .piece) l g in let y : piecePlace s (a .piece) < 2048 = omega (arith, f, c .before .before .before .before .if1 .taken) in (z, (c .before .before .before .before .if1 .taken, rw (c .before .before .switch-ticks .ensures, e, at-is s ts h 6 q (omega arith) (a .piece) l g, ← work-is s ts h 6 q (omega arith) (a .piece) l g) (work-fits s ts h 6 q (omega arith) (a .piece) l g y)))
+take-at-requires c κs = let a = c .before .before .before .before .before .before .before .before .before .before .before .args in let s = a .image .now in let ts = a .times .now in let p = c .before .before .before .before .before .before .before .before .before .before .before .pre in let h = p .0 .0 in let q = p .0 .1 .0 in let l = p .0 .1 .1 in let g = p .1 in let z = g .placed .size in let e = c .before .before .before .before .before .before .before .before .piece-at .ensures in let f = ap (λ (x : Piece). getD ts (x .task) 0 + x .job) e ∙ at-is s ts h 6 q (omega arith) (a .piece) l g in let y : piecePlace s (a .piece) < mostPieces = omega (arith, f, c .before .before .before .before .if1 .taken) in (z, (c .before .before .before .before .if1 .taken, rw (c .before .before .switch-ticks .ensures, e, at-is s ts h 6 q (omega arith) (a .piece) l g, ← work-is s ts h 6 q (omega arith) (a .piece) l g) (work-fits s ts h 6 q (omega arith) (a .piece) l g y)))
 
 -- src/lib.rt:89:1
 same-length : tie.Need-same-length
@@ -73,11 +73,11 @@ same-length c = search needs
 
 -- src/lib.rt:89:1
 returns : tie.Need-returns
-returns c = let a = c .before .before .before .before .before .before .before .before .before .before .before .before .before .before .args in let s = a .image .now in let ts = a .times .now in let p = c .before .before .before .before .before .before .before .before .before .before .before .before .before .before .pre in let h = p .0 .0 in let q = p .0 .1 .0 in let l = p .0 .1 .1 in let g = p .1 in let z = g .placed .size in let e = c .before .before .before .before .before .before .before .before .before .before .before .piece-at .ensures in let f = ap (λ (x : Piece). getD ts (x .task) 0 + x .job) e ∙ at-is s ts h 6 q (omega arith) (a .piece) l g in let y : piecePlace s (a .piece) < 2048 = omega (arith, f, c .before .before .before .before .before .before .before .if1 .taken) in rw (c .before .before .take-at .ensures, c .before .before .before .before .before .before .piece-end .ensures, c .before .before .before .before .before .switch-ticks .ensures, e, at-is s ts h 6 q (omega arith) (a .piece) l g, ← work-is s ts h 6 q (omega arith) (a .piece) l g) (taken-in s ts h 6 q (omega arith) (a .piece) l g y)
+returns c = let a = c .before .before .before .before .before .before .before .before .before .before .before .before .before .before .args in let s = a .image .now in let ts = a .times .now in let p = c .before .before .before .before .before .before .before .before .before .before .before .before .before .before .pre in let h = p .0 .0 in let q = p .0 .1 .0 in let l = p .0 .1 .1 in let g = p .1 in let z = g .placed .size in let e = c .before .before .before .before .before .before .before .before .before .before .before .piece-at .ensures in let f = ap (λ (x : Piece). getD ts (x .task) 0 + x .job) e ∙ at-is s ts h 6 q (omega arith) (a .piece) l g in let y : piecePlace s (a .piece) < mostPieces = omega (arith, f, c .before .before .before .before .before .before .before .if1 .taken) in rw (c .before .before .take-at .ensures, c .before .before .before .before .before .before .piece-end .ensures, c .before .before .before .before .before .switch-ticks .ensures, e, at-is s ts h 6 q (omega arith) (a .piece) l g, ← work-is s ts h 6 q (omega arith) (a .piece) l g) (taken-in s ts h 6 q (omega arith) (a .piece) l g y)
 
 -- src/lib.rt:89:1
 returns-2 : tie.Need-returns-2
-returns-2 c = let a = c .before .before .before .before .before .before .before .args in let s = a .image .now in let ts = a .times .now in let p = c .before .before .before .before .before .before .before .pre in let h = p .0 .0 in let q = p .0 .1 .0 in let l = p .0 .1 .1 in let g = p .1 in let z = g .placed .size in let e = c .before .before .before .before .piece-at .ensures in let f = ap (λ (x : Piece). getD ts (x .task) 0 + x .job) e ∙ at-is s ts h 6 q (omega arith) (a .piece) l g in let y : 2048 ≤ piecePlace s (a .piece) = omega (arith, f, c .if1 .left) in passed-over s ts h 6 q (omega arith) (a .piece) l g y
+returns-2 c = let a = c .before .before .before .before .before .before .before .args in let s = a .image .now in let ts = a .times .now in let p = c .before .before .before .before .before .before .before .pre in let h = p .0 .0 in let q = p .0 .1 .0 in let l = p .0 .1 .1 in let g = p .1 in let z = g .placed .size in let e = c .before .before .before .before .piece-at .ensures in let f = ap (λ (x : Piece). getD ts (x .task) 0 + x .job) e ∙ at-is s ts h 6 q (omega arith) (a .piece) l g in let y : mostPieces ≤ piecePlace s (a .piece) = omega (arith, f, c .if1 .left) in passed-over s ts h 6 q (omega arith) (a .piece) l g y
 
 pub take-in-spec : {M : Type 1} → statement M
 take-in-spec =

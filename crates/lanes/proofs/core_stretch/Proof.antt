@@ -10,7 +10,7 @@ use Rattle.lanes.proofs.core_stretch.Tie as tie
 use Rattle.lanes.proofs.core_stretch.Reads as reads
 use Rattle.lanes.proofs.core_stretch.Lts as lts
 use Rattle.lanes.proofs.idle_stretch.Reads as idle-stretch-reads
-use Rattle.lanes.proofs.least.Reads as least-reads
+use Rattle.tallies.proofs.lesser.Reads as lesser-reads
 use Rattle.lanes.proofs.nearest.Reads as nearest-reads
 use Rattle.lanes.proofs.piece_stretch.Reads as piece-stretch-reads
 use Rattle.lanes.proofs.window_stretch.Reads as window-stretch-reads
@@ -50,8 +50,8 @@ enum-known-free : tie.Need-enum-known-free
 enum-known-free c = search needs
 
 -- src/lib.rt:185:46
-least-requires : tie.Need-least-requires
-least-requires c κs = search needs
+lesser-requires : tie.Need-lesser-requires
+lesser-requires c κs = search needs
 
 -- src/lib.rt:185:33
 idle-stretch-requires : tie.Need-idle-stretch-requires
@@ -67,7 +67,7 @@ returns-2 c = let a = c .before .before .before .before .before .before .before 
 
 -- src/lib.rt:169:1
 returns-3 : tie.Need-returns-3
-returns-3 c = let a = c .before .before .before .before .before .before .before .before .before .before .before .before .args in let s = a .image .now in let g = subst (Nearest s Piece (a .core) (a .tick)) (c .before .before .before .before .before .before .before .next .given .1) (c .before .before .before .before .before .before .before .before .before .nearest .ensures) in let h = subst (Nearest s Window (a .core) (a .tick)) (c .before .before .before .free .given .1) (c .before .before .before .before .before .nearest2 .ensures) in rw (c .idle-stretch .ensures, c .before .least .ensures) (core-idles s (a .core) (a .tick) _ _ g h)
+returns-3 c = let a = c .before .before .before .before .before .before .before .before .before .before .before .before .args in let s = a .image .now in let g = subst (Nearest s Piece (a .core) (a .tick)) (c .before .before .before .before .before .before .before .next .given .1) (c .before .before .before .before .before .before .before .before .before .nearest .ensures) in let h = subst (Nearest s Window (a .core) (a .tick)) (c .before .before .before .free .given .1) (c .before .before .before .before .before .nearest2 .ensures) in rw (c .idle-stretch .ensures, c .before .lesser .ensures) (core-idles s (a .core) (a .tick) _ _ g h)
 
 pub core-stretch-spec : {M : Type 1} → statement M
 core-stretch-spec =
@@ -81,7 +81,7 @@ core-stretch-spec =
     enum-known-around
     window-stretch-requires
     enum-known-free
-    least-requires
+    lesser-requires
     idle-stretch-requires
     returns
     returns-2

@@ -6,18 +6,18 @@ use Rattle.lanes.proofs.segment_at.Statement.{statement}
 use Rattle.lanes.proofs.segment_at.Tie as tie
 use Rattle.lanes.proofs.segment_at.Reads as reads
 use Rattle.lanes.proofs.segment_at.Lts as lts
-use Rattle.lanes.proofs.least.Reads as least-reads
+use Rattle.tallies.proofs.lesser.Reads as lesser-reads
 
-least-requires : tie.Need-least-requires
-least-requires c κs = search needs
+lesser-requires : tie.Need-lesser-requires
+lesser-requires c κs = search needs
 
 returns : tie.Need-returns
 unfolding segmentOf
-returns c = rw (lt-ltb _ _ (c .before .if1 .taken), c .least .ensures) refl
+returns c = rw (lt-ltb _ _ (c .before .if1 .taken), c .lesser .ensures) refl
 
 returns-2 : tie.Need-returns-2
 unfolding segmentOf
 returns-2 c = rw (le-ltb _ _ (c .if1 .left)) refl
 
 pub segment-at-spec : {M : Type 1} → statement M
-segment-at-spec = tie.close (tie.spec least-requires returns returns-2)
+segment-at-spec = tie.close (tie.spec lesser-requires returns returns-2)

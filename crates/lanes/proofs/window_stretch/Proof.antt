@@ -11,7 +11,7 @@ use Rattle.lanes.proofs.window_stretch.Tie as tie
 use Rattle.lanes.proofs.window_stretch.Reads as reads
 use Rattle.lanes.proofs.window_stretch.Lts as lts
 use Rattle.charges.proofs.charge_at.Reads as charge-at-reads
-use Rattle.lanes.proofs.least.Reads as least-reads
+use Rattle.tallies.proofs.lesser.Reads as lesser-reads
 use Rattle.tables.proofs.window_at.Reads as window-at-reads
 
 -- src/lib.rt:144:9
@@ -27,19 +27,19 @@ add-t7 : tie.Need-add-t7
 add-t7 c = let p = c .before .before .before .before .before .pre in let a = c .before .before .before .before .before .args in omega (arith, ap (λ (q : Window). q .start) (c .before .before .window-at .ensures), c .before .charge-at .ensures, charged-small (a .image .now) (p .0) (a .window) (p .1 .1))
 
 -- src/lib.rt:150:22
-add-least : tie.Need-add-least
-add-least c = let f = c .before .before .before .window-at .ensures in let p = c .before .before .before .before .before .before .pre in let a = c .before .before .before .before .before .before .args in omega (arith, ap (λ (q : Window). q .start) f, ap (λ (q : Window). q .length) f, window-small (a .image .now) (p .0) (a .window) (p .1 .1))
+add-lesser : tie.Need-add-lesser
+add-lesser c = let f = c .before .before .before .window-at .ensures in let p = c .before .before .before .before .before .before .pre in let a = c .before .before .before .before .before .before .args in omega (arith, ap (λ (q : Window). q .start) f, ap (λ (q : Window). q .length) f, window-small (a .image .now) (p .0) (a .window) (p .1 .1))
 
 -- src/lib.rt:150:16
-least-requires : tie.Need-least-requires
-least-requires c κs = search needs
+lesser-requires : tie.Need-lesser-requires
+lesser-requires c κs = search needs
 
 -- src/lib.rt:140:1
 returns : tie.Need-returns
 unfolding windowStretch windowEnd
-returns c = rw (c .least .ensures, c .before .before .before .charge-at .ensures, c .before .before .before .before .window-at .ensures) refl
+returns c = rw (c .lesser .ensures, c .before .before .before .charge-at .ensures, c .before .before .before .before .window-at .ensures) refl
 
 pub window-stretch-spec : {M : Type 1} → statement M
 window-stretch-spec =
     tie.close
-    (tie.spec window-at-requires charge-at-requires add-t7 add-least least-requires returns)
+    (tie.spec window-at-requires charge-at-requires add-t7 add-lesser lesser-requires returns)

@@ -2,7 +2,7 @@ use Prim.Native.Nat.{_-_, _≤_}
 use mathlib.Core.Path.{_≡_, refl, subst, sym, _∙_}
 use native.Mathlib.Omega.{arith}
 use native.Mathlib.Numerals.{add-one}
-use Rattle.places.specs.Index.{Cleared, Untouched}
+use Rattle.places.specs.Index.{Cleared, Untouched, mostPlaces}
 use Rattle.places.proofs.Linking.{cleared-none, cleared-more, kept-over}
 use Rattle.places.proofs.clear.Statement.{statement}
 use Rattle.places.proofs.clear.Tie as tie
@@ -10,10 +10,10 @@ use Rattle.places.proofs.clear.Reads as reads
 use Rattle.places.proofs.clear.Lts as lts
 
 abbrev Inv-loop : tie.InvT-loop
-Inv-loop index₀ base rows place₀ index place = (place ≤ 64) × Cleared base rows index place × Untouched base index₀ index
+Inv-loop index₀ base rows place₀ index place = (place ≤ mostPlaces) × Cleared base rows index place × Untouched base index₀ index
 
 abbrev μ-loop : tie.MeasureT-loop
-μ-loop index₀ base rows place₀ index place = 64 - place
+μ-loop index₀ base rows place₀ index place = mostPlaces - place
 
 -- src/lib.rt:68:5
 loop-holds : tie.Need-loop-holds Inv-loop μ-loop
@@ -49,7 +49,7 @@ same-length c = c .before .loop .inv .1 .size ∙ sym (c .before .before .pre .0
 
 -- src/lib.rt:63:1
 returns : tie.Need-returns Inv-loop μ-loop
-returns c = let l = c .before .loop in let a = c .before .before .args in let e : l .place ≡ 64 = omega arith in (subst (Cleared (a .base) (a .rows) (l .index)) e (l .inv .1), l .inv .2)
+returns c = let l = c .before .loop in let a = c .before .before .args in let e : l .place ≡ mostPlaces = omega arith in (subst (Cleared (a .base) (a .rows) (l .index)) e (l .inv .1), l .inv .2)
 
 pub clear-spec : {M : Type 1} → statement M
 clear-spec =

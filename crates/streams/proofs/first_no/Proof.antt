@@ -27,11 +27,11 @@ first-row-requires c κs = (c .before .before .before .before .pre, (c .match .r
 
 -- src/lib.rt:226:1
 returns : tie.Need-returns
-returns c = let a = c .before .before .before .before .before .args in let s = a .image .now in c .first-unframed .ensures ∙ sym (ap (λ (n : ℕ). refusing (questionAt (streamQuestions s) (n - 14))) (c .before .match .keys1))
+returns c = let a = c .before .before .before .before .before .args in let s = a .image .now in c .first-unframed .ensures ∙ sym (ap (λ (n : ℕ). refusing (questionAt (streamQuestions s) n)) (c .before .match .keys1))
 
 returns-2 : tie.Need-returns-2
 unfolding questionAt each streamQuestions tableFor clearOf
-returns-2 c = let a = c .before .before .before .before .before .args in let s = a .image .now in c .first-clash .ensures ∙ sym (ap (λ (n : ℕ). refusing (questionAt (streamQuestions s) (n - 14))) (c .before .match .keys2))
+returns-2 c = let a = c .before .before .before .before .before .args in let s = a .image .now in c .first-clash .ensures ∙ sym (ap (λ (n : ℕ). refusing (questionAt (streamQuestions s) n)) (c .before .match .keys2))
 
 returns-3 : tie.Need-returns-3
 returns-3 c = c .first-row .ensures

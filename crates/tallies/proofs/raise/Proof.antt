@@ -4,19 +4,19 @@ use Rattle.tallies.proofs.raise.Statement.{statement}
 use Rattle.tallies.proofs.raise.Tie as tie
 use Rattle.tallies.proofs.raise.Reads as reads
 use Rattle.tallies.proofs.raise.Lts as lts
-use Rattle.tallies.proofs.greater.Reads as greater-reads
+use Rattle.tallies.proofs.greater_wide.Reads as greater-wide-reads
 
 -- src/lib.rt:17:37
-mul-greater : tie.Need-mul-greater
-mul-greater c = search needs
+mul-greater-wide : tie.Need-mul-greater-wide
+mul-greater-wide c = search needs
 
 -- src/lib.rt:17:37
-slice-read-greater : tie.Need-slice-read-greater
-slice-read-greater c = search needs
+slice-read-greater-wide : tie.Need-slice-read-greater-wide
+slice-read-greater-wide c = search needs
 
 -- src/lib.rt:17:29
-greater-requires : tie.Need-greater-requires
-greater-requires c κs = search needs
+greater-wide-requires : tie.Need-greater-wide-requires
+greater-wide-requires c κs = search needs
 
 -- src/lib.rt:17:5
 mul-words : tie.Need-mul-words
@@ -32,15 +32,15 @@ same-length c = search needs
 
 -- src/lib.rt:13:1
 returns : tie.Need-returns
-returns c = rw (c .greater .ensures) refl
+returns c = rw (c .greater-wide .ensures) refl
 
 pub raise-spec : {M : Type 1} → statement M
 raise-spec =
     tie.close
     (tie.spec
-    mul-greater
-    slice-read-greater
-    greater-requires
+    mul-greater-wide
+    slice-read-greater-wide
+    greater-wide-requires
     mul-words
     slice-write-words
     same-length

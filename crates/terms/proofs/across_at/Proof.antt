@@ -1,4 +1,4 @@
-use mathlib.Core.Path.{ap}
+use mathlib.Core.Path.{ap, refl}
 use native.Mathlib.Omega.{arith}
 use Rattle.plan.specs.declared.Frame.{Frame}
 use Rattle.plan.specs.Questions.{frameEnd}
@@ -52,7 +52,7 @@ add-result-2 c = let f = c .before .before .before .before .frame-at in let a = 
 -- src/lib.rt:132:1
 returns : tie.Need-returns
 unfolding across
-returns c = cc
+returns c = rw (c .precision-ticks .ensures, c .before .before .link-at .ensures, c .before .before .before .frame-end .ensures, c .before .before .before .before .frame-at .ensures) refl
 
 pub across-at-spec : {M : Type 1} → statement M
 across-at-spec =

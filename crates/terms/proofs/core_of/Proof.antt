@@ -1,3 +1,4 @@
+use mathlib.Core.Path.{refl}
 use Rattle.plan.specs.declared.Table.the-variants.{Tasks}
 use Rattle.plan.specs.Questions.{coreOf}
 use borrow.Author.Needs.{needs}
@@ -19,7 +20,7 @@ vcpu-at-requires c κs = let p = c .before .before .pre in (p .0 .inside, rw (c 
 -- src/lib.rt:22:1
 returns : tie.Need-returns
 unfolding coreOf
-returns c = cc
+returns c = rw (c .vcpu-at .ensures, c .before .task-at .ensures) refl
 
 pub core-of-spec : {M : Type 1} → statement M
 core-of-spec = tie.close (tie.spec task-at-requires vcpu-at-requires returns)

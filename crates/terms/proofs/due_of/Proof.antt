@@ -1,3 +1,4 @@
+use mathlib.Core.Path.{refl}
 use Prim.Native.Nat.{_^_, _<_}
 use native.Mathlib.Omega.{arith}
 use Rattle.terms.proofs.Products.{product-fits}
@@ -32,7 +33,7 @@ add-result c = let j = c .before .before .before .before .args .job in let t = c
 -- src/lib.rt:55:1
 returns : tie.Need-returns
 unfolding due
-returns c = cc
+returns c = rw (c .before .before .task-at .ensures) refl
 
 pub due-of-spec : {M : Type 1} → statement M
 due-of-spec =

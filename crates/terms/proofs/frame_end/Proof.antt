@@ -1,3 +1,4 @@
+use mathlib.Core.Path.{refl}
 use Rattle.plan.specs.Questions.{frameEnd}
 use borrow.Author.Needs.{needs}
 use Rattle.terms.proofs.frame_end.Statement.{statement}
@@ -30,7 +31,7 @@ add-result c = search needs
 -- src/lib.rt:124:1
 returns : tie.Need-returns
 unfolding frameEnd
-returns c = cc
+returns c = rw (c .send-ticks .ensures, c .before .before .frame-at .ensures) refl
 
 pub frame-end-spec : {M : Type 1} → statement M
 frame-end-spec =

@@ -1,3 +1,4 @@
+use mathlib.Core.Path.{refl}
 use Rattle.plan.specs.declared.Table.the-variants.{Tasks}
 use Rattle.plan.specs.Questions.{jobs}
 use borrow.Author.Needs.{needs}
@@ -23,7 +24,7 @@ div-result c = let p = c .before .before .before .before .pre in rw (c .before .
 -- src/lib.rt:39:1
 returns : tie.Need-returns
 unfolding jobs
-returns c = cc
+returns c = rw (c .before .task-at .ensures, c .before .before .cycle-ticks .ensures) refl
 
 pub jobs-of-spec : {M : Type 1} → statement M
 jobs-of-spec = tie.close (tie.spec cycle-ticks-requires task-at-requires div-result returns)

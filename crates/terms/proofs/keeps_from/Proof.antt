@@ -1,3 +1,4 @@
+use mathlib.Core.Path.{refl}
 use Rattle.plan.specs.Questions.{keepsFrom}
 use borrow.Author.Needs.{needs}
 use Rattle.terms.proofs.keeps_from.Statement.{statement}
@@ -26,7 +27,7 @@ cast-meets c = search needs
 -- src/lib.rt:92:1
 returns : tie.Need-returns
 unfolding keepsFrom
-returns c = cc
+returns c = rw (c .before .window-end .ensures, c .before .before .before .before .window-at2 .ensures, c .before .before .before .before .before .window-at .ensures) refl
 
 pub keeps-from-spec : {M : Type 1} → statement M
 keeps-from-spec =

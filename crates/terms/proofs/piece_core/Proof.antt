@@ -1,3 +1,4 @@
+use mathlib.Core.Path.{refl}
 use Rattle.plan.specs.declared.Table.the-variants.{Pieces}
 use Rattle.plan.specs.Questions.{pieceCore}
 use borrow.Author.Needs.{needs}
@@ -19,7 +20,7 @@ core-of-requires c κs = let p = c .before .before .pre in (p .0, rw (c .piece-a
 -- src/lib.rt:80:1
 returns : tie.Need-returns
 unfolding pieceCore
-returns c = cc
+returns c = rw (c .core-of .ensures, c .before .piece-at .ensures) refl
 
 pub piece-core-spec : {M : Type 1} → statement M
 piece-core-spec = tie.close (tie.spec piece-at-requires core-of-requires returns)

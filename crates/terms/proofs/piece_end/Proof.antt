@@ -1,3 +1,4 @@
+use mathlib.Core.Path.{refl}
 use Rattle.plan.specs.Questions.{pieceEnd}
 use borrow.Author.Needs.{needs}
 use Rattle.terms.proofs.piece_end.Statement.{statement}
@@ -25,7 +26,7 @@ add-result c = search needs
 -- src/lib.rt:87:1
 returns : tie.Need-returns
 unfolding pieceEnd
-returns c = cc
+returns c = rw (c .before .before .piece-at .ensures) refl
 
 pub piece-end-spec : {M : Type 1} → statement M
 piece-end-spec =

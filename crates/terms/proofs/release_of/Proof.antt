@@ -1,3 +1,4 @@
+use mathlib.Core.Path.{refl}
 use Prim.Native.Nat.{_^_, _<_}
 use native.Mathlib.Omega.{arith}
 use Rattle.terms.proofs.Products.{product-fits}
@@ -24,7 +25,7 @@ mul-result c = let j = c .before .before .before .args .job in let t = c .before
 -- src/lib.rt:47:1
 returns : tie.Need-returns
 unfolding release
-returns c = cc
+returns c = rw (c .before .task-at .ensures) refl
 
 pub release-of-spec : {M : Type 1} → statement M
 release-of-spec = tie.close (tie.spec task-at-requires cast-result mul-result returns)

@@ -1,3 +1,4 @@
+use mathlib.Core.Path.{refl}
 use Rattle.plan.specs.declared.Table.the-variants.{Streams}
 use Rattle.plan.specs.Questions.{streamPeriod}
 use borrow.Author.Needs.{needs}
@@ -19,7 +20,7 @@ task-at-requires c κs = let p = c .before .before .pre in (p .0 .inside, rw (c 
 -- src/lib.rt:96:1
 returns : tie.Need-returns
 unfolding streamPeriod
-returns c = cc
+returns c = rw (c .task-at .ensures, c .before .stream-at .ensures) refl
 
 pub stream-period-spec : {M : Type 1} → statement M
 stream-period-spec = tie.close (tie.spec stream-at-requires task-at-requires returns)

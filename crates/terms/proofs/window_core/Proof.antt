@@ -1,3 +1,4 @@
+use mathlib.Core.Path.{refl}
 use Rattle.plan.specs.declared.Table.the-variants.{Windows}
 use Rattle.plan.specs.Questions.{windowCore}
 use borrow.Author.Needs.{needs}
@@ -19,7 +20,7 @@ vcpu-at-requires c κs = let p = c .before .before .pre in (p .0 .inside, rw (c 
 -- src/lib.rt:55:1
 returns : tie.Need-returns
 unfolding windowCore
-returns c = cc
+returns c = rw (c .vcpu-at .ensures, c .before .window-at .ensures) refl
 
 pub window-core-spec : {M : Type 1} → statement M
 window-core-spec = tie.close (tie.spec window-at-requires vcpu-at-requires returns)

@@ -1,3 +1,4 @@
+use mathlib.Core.Path.{refl}
 use Rattle.plan.specs.Questions.{windowEnd}
 use borrow.Author.Needs.{needs}
 use Rattle.terms.proofs.window_end.Statement.{statement}
@@ -25,7 +26,7 @@ add-result c = search needs
 -- src/lib.rt:63:1
 returns : tie.Need-returns
 unfolding windowEnd
-returns c = cc
+returns c = rw (c .before .before .window-at .ensures) refl
 
 pub window-end-spec : {M : Type 1} → statement M
 window-end-spec =

@@ -1,7 +1,10 @@
-use mathlib.Core.Path.{sym, _∙_}
+use mathlib.Core.Path.{sym, ap, _∙_}
 use native.Mathlib.Omega.{arith}
+use Rattle.plan.specs.declared.Answer.{Answer}
+use Rattle.plan.specs.Questions.{questionAt, each, pieceQuestions}
+use Rattle.plan.proofs.Asking.{refused-at}
 use Rattle.jobs.proofs.Gathering.{timed}
-use Rattle.windows.proofs.Asked.{off-budget, all-pass, on-budget}
+use Rattle.windows.proofs.Asked.{asked-some, all-pass, on-budget}
 use borrow.Author.Needs.{needs}
 use Rattle.windows.proofs.ask_budgets.Statement.{statement}
 use Rattle.windows.proofs.ask_budgets.Tie as tie
@@ -10,7 +13,8 @@ use Rattle.windows.proofs.ask_budgets.Lts as lts
 use Rattle.jobs.proofs.first_off_budget.Reads as first-off-budget-reads
 use Rattle.jobs.proofs.gather.Reads as gather-reads
 use Rattle.plan.proofs.accepted.Reads as accepted-reads
-use Rattle.tables.proofs.shape_of.Reads as shape-of-reads
+use Rattle.tables.proofs.refusal.Reads as refusal-reads
+use Rattle.windows.proofs.question_at.Reads as question-at-reads
 
 -- src/lib.rt:147:5
 gather-requires : tie.Need-gather-requires
@@ -24,9 +28,11 @@ first-off-budget-requires c κs = search needs
 enum-known-row : tie.Need-enum-known-row
 enum-known-row c = search needs
 
--- src/lib.rt:151:20
-shape-of-requires : tie.Need-shape-of-requires
-shape-of-requires c κs = search needs
+question-at-requires : tie.Need-question-at-requires
+question-at-requires c κs = omega arith
+
+refusal-requires : tie.Need-refusal-requires
+refusal-requires c κs = tt
 
 -- src/lib.rt:154:27
 enum-told : tie.Need-enum-told
@@ -42,7 +48,8 @@ same-length c = search needs
 
 -- src/lib.rt:143:1
 returns : tie.Need-returns
-returns c = let s = c .before .before .before .before .before .before .before .before .before .before .before .before .args .image .now in let p = c .before .before .before .before .before .before .before .before .before .before .before .before .pre in (rw (c .shape-of .ensures) (off-budget s (p .1 .0) _ (sym (c .before .before .before .before .first-off-budget .ensures) ∙ c .before .before .row .given .1)), λ z. absurd (omega arith))
+unfolding pieceQuestions questionAt each
+returns c = let s = c .before .before .before .before .before .before .before .before .before .before .before .before .before .args .image .now in let p = c .before .before .before .before .before .before .before .before .before .before .before .before .before .pre in let k = c .before .question-at .ensures in (c .refusal .ensures ∙ refused-at pieceQuestions s 6 _ _ k (p .1 .0) (omega arith) (sym (c .before .before .before .before .before .first-off-budget .ensures) ∙ c .before .before .before .row .given .1), λ z. absurd (asked-some s 6 _ (omega arith) k (sym (ap (λ (x : Answer). x .number) (c .refusal .ensures)) ∙ z)))
 
 -- src/lib.rt:143:1
 same-length-2 : tie.Need-same-length-2
@@ -59,7 +66,8 @@ ask-budgets-spec =
     gather-requires
     first-off-budget-requires
     enum-known-row
-    shape-of-requires
+    question-at-requires
+    refusal-requires
     enum-told
     accepted-requires
     same-length
