@@ -1,4 +1,4 @@
-//! Questions 1 to 24 and 29 to 32, in the papers' order: 32 comes after 5.
+//! The questions of `questions`, in the papers' order.
 //!
 //! Each question may rely on a yes to those before it. Sums and products are
 //! taken in 64 bits, where no words of 32 bits can make them wrap.

@@ -110,14 +110,15 @@ pub fn set_word(image: &mut [u8], byte: usize, word: u32) {
     image[byte..byte + WORD].copy_from_slice(&word.to_le_bytes());
 }
 
-/// Makes the last word of at least 92 bytes the length less 92.
+/// Makes the last word of an image the length less the trailer's; the image
+/// is at least that long.
 pub fn point_back(image: &mut [u8]) {
     let length = image.len();
     set_word(image, length - WORD, (length - TRAILER) as u32);
 }
 
 impl Trailer {
-    /// Reads the trailer of an image of at least 92 bytes.
+    /// Reads the trailer of an image that is at least that long.
     pub fn read(image: &[u8]) -> Trailer {
         let begin = image.len() - TRAILER;
         let field = |index: usize| word_at(image, begin + index * WORD);

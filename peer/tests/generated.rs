@@ -4,6 +4,7 @@ use peer::generate::{
     accepted, bare, busy_core, cut_window, diamond, full, kept_core, large, longest_lane, medium,
     most_entries, rich, shared_buffer, small, tiny, unit_periods,
 };
+use peer::image::{LONGEST, ROW_BOUNDS};
 use peer::{check, report, Answer, Plan, Rng};
 
 fn all_accepted(count: u64, shape: fn(&mut Rng) -> Plan) {
@@ -66,11 +67,8 @@ fn rows_with_one_start_are_met() {
 #[test]
 fn full_plans_have_every_row() {
     let plan = full(&mut Rng::new(3));
-    assert_eq!(
-        plan.counts(),
-        [32, 64, 256, 1024, 2048, 64, 64, 512, 64, 32]
-    );
-    assert_eq!(plan.encode().len(), 64_604);
+    assert_eq!(plan.counts(), ROW_BOUNDS.map(|(_, most)| most as usize));
+    assert_eq!(plan.encode().len(), LONGEST);
 }
 
 /// Three for each window and piece, two for each frame, and one more for each

@@ -3,7 +3,9 @@
 mod cases;
 
 use cases::{case_a, case_b, case_chain, two_hops, two_rows};
-use peer::image::{LONGEST, TRAILER};
+use peer::image::{
+    point_back, set_word, width, word_at, Trailer, LINK, LONGEST, TABLES, TRAILER, WORD,
+};
 use peer::{build, check, naive, report, start, step, step_all, Answer, Plan, State};
 
 #[track_caller]
@@ -25,8 +27,6 @@ fn changed(mut plan: Plan, change: impl Fn(&mut Plan), number: u32, table: u32, 
 #[test]
 fn a_prints_whole() {
     let image = case_a().encode();
-    assert_eq!(image.len(), 156);
-    assert_eq!(image[152..], [64, 0, 0, 0]);
     expect(&image, 0, 0, 0);
     let text = "0 0 0\n0 0 1 0\n0 2 3 0\n0 3 4 0\n0 6 2 0\n";
     assert_eq!(report(&image), text);
@@ -56,7 +56,8 @@ fn a_changed() {
 #[test]
 fn a_as_bytes() {
     let mut image = case_a().encode();
-    image[152] = 63;
+    let last_word = image.len() - WORD;
+    image[last_word] -= 1;
     expect(&image, 2, 0, 0);
     expect(&[], 1, 0, 0);
 }
@@ -379,50 +380,56 @@ fn each_hop_has_its_own_rate() {
     assert_eq!(lines[lines.len() - 1], "3 19 0 0");
 }
 
-/// The paper's sizes, which the code reckons from widths and counts.
+/// The paper's sizes, which all code reckons from widths and counts. They are
+/// written down here and in no other test.
 #[test]
 fn sizes_are_the_papers() {
     assert_eq!((TRAILER, LONGEST), (92, 64_604));
+    let image = case_a().encode();
+    assert_eq!(image.len(), 156);
+    assert_eq!(image[152..], [64, 0, 0, 0]);
 }
 
 /// An image of case B with link rows of three words.
 #[test]
 fn old_link_rows_are_refused() {
-    let plan = case_b();
-    let mut image = plan.encode();
-    let begin = 4 * (2 * 3 + 2 + 2 * 5 + 2 * 3 + 2 * 4);
-    image.drain(begin + 12..begin + 16);
-    let length = image.len();
-    for table in 7..=10 {
-        let at = length - 92 + 8 * table;
-        let offset = u32::from_le_bytes([image[at], image[at + 1], 0, 0]);
-        image[at..at + 4].copy_from_slice(&(offset - 4).to_le_bytes());
+    let mut image = case_b().encode();
+    let (begin, rows) = Trailer::read(&image).tables[LINK as usize - 1];
+    assert_eq!(rows, 1);
+    let gone = (width(LINK) - 3) * WORD;
+    let rate = begin as usize + 3 * WORD;
+    image.drain(rate..rate + gone);
+    for table in LINK as usize..TABLES {
+        let at = image.len() - TRAILER + WORD * (2 + 2 * table);
+        let offset = word_at(&image, at) - gone as u32;
+        set_word(&mut image, at, offset);
     }
-    image[length - 4..].copy_from_slice(&(length as u32 - 92).to_le_bytes());
+    point_back(&mut image);
     expect(&image, 3, 0, 0);
 }
 
 /// Request 3: chains over several messages.
 #[test]
 fn lengths_are_bounded() {
-    expect(&[0; 84], 1, 0, 0);
-    expect(&[0; 91], 1, 0, 0);
-    expect(&[0; 92], 3, 0, 0);
-    for (length, number) in [(64_604, 3), (64_605, 1)] {
+    expect(&[0; TRAILER - 2 * WORD], 1, 0, 0);
+    expect(&[0; TRAILER - 1], 1, 0, 0);
+    expect(&[0; TRAILER], 3, 0, 0);
+    for (length, number) in [(LONGEST, 3), (LONGEST + 1, 1)] {
         let mut image = vec![0; length];
-        image[length - 4..].copy_from_slice(&(length as u32 - 92).to_le_bytes());
+        point_back(&mut image);
         expect(&image, number, 0, 0);
     }
 }
 
-/// Case A as it was: nine tables, 148 bytes, last word 64.
+/// Case A as it was, with nine tables: the last word says where their trailer
+/// begins.
 #[test]
 fn old_images_are_refused() {
     let mut image = case_a().encode();
-    image.drain(144..152);
-    assert_eq!((image.len(), image[144]), (148, 64));
+    let tenth = image.len() - 3 * WORD;
+    image.drain(tenth..tenth + 2 * WORD);
     expect(&image, 2, 0, 0);
-    image[144] = 148 - 92;
+    point_back(&mut image);
     expect(&image, 3, 0, 0);
 }
 

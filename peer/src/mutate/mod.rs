@@ -12,17 +12,17 @@ mod order;
 mod streams;
 
 use crate::generate;
-use crate::histogram::questions;
 use crate::image::{Plan, ROW_BOUNDS, WINDOW};
+use crate::questions::QUESTIONS;
 use crate::rng::Rng;
 
 /// An image made of an accepted plan by one change, sometimes by two.
 pub fn mutate(plan: &Plan, rng: &mut Rng) -> Vec<u8> {
     let mut plan = plan.clone();
-    let first = match rng.below(31) as u32 {
+    let first = match rng.below(QUESTIONS.len() + 3) {
         0 => Change::Harmless,
-        chosen @ 1..=3 => Change::Bytes(chosen),
-        4..=28 => Change::Rows(any_of_rows(rng)),
+        turn @ 1..=3 => Change::Bytes(QUESTIONS[turn - 1]),
+        turn if turn <= QUESTIONS.len() => Change::Rows(any_of_rows(rng)),
         _ => Change::Scattered,
     };
     if let Change::Rows(question) = first {
@@ -56,8 +56,7 @@ enum Change {
 
 /// Any of the questions that are asked of rows, or of H and P.
 fn any_of_rows(rng: &mut Rng) -> u32 {
-    let of_rows: Vec<u32> = questions().skip(3).collect();
-    rng.pick(&of_rows)
+    rng.pick(&QUESTIONS[3..])
 }
 
 /// An image made of a plan of its own, mostly one with rows in every table.
