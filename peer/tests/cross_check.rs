@@ -3,6 +3,7 @@
 use peer::generate::{
     busy_core, diamond, full, kept_core, medium, rich, small, small_rich, unit_periods,
 };
+use peer::image::rows_of;
 use peer::mutate::{mutant, mutate};
 use peer::{build, check, naive, step, step_all, Answer, Histogram, Plan, Rng, State, QUESTIONS};
 
@@ -49,9 +50,9 @@ fn rough(rng: &mut Rng) -> Plan {
     let switch = |rng: &mut Rng| rng.pick(&[0, 0, 0, 1]);
     let few = |most: u32, rng: &mut Rng| 0..rng.within(1..=most);
     let cores = few(3, rng).map(|core| [core / 2, switch(rng), switch(rng)]);
-    let cores: Vec<[u32; 3]> = cores.collect();
+    let cores: Vec<_> = cores.collect();
     let whole = rng.chance(70);
-    let vcpus: Vec<[u32; 1]> = if whole {
+    let vcpus: Vec<_> = if whole {
         (0..cores.len() as u32).map(|core| [core]).collect()
     } else {
         few(4, rng)
@@ -65,9 +66,9 @@ fn rough(rng: &mut Rng) -> Plan {
         let deadline = rng.within(budget.max(period / 2)..=period);
         [vcpu(rng), 7, period, budget, deadline]
     });
-    let tasks: Vec<[u32; 5]> = tasks.collect();
+    let tasks: Vec<_> = tasks.collect();
     let task = |rng: &mut Rng| rng.below(tasks.len()) as u32;
-    let windows: Vec<[u32; 3]> = if whole {
+    let windows: Vec<_> = if whole {
         // One window as long as the cycle for each VCPU.
         (0..vcpus.len() as u32)
             .map(|vcpu| [vcpu, 0, cycle])
@@ -87,15 +88,15 @@ fn rough(rng: &mut Rng) -> Plan {
         let start = k * period + rng.within(0..=deadline - length);
         [task, k, start, length]
     });
-    let pieces = pieces.collect();
+    let pieces: Vec<_> = pieces.collect();
     Plan {
         cycle,
         precision: rng.within(0..=1),
-        pieces,
-        windows,
-        cores,
-        vcpus,
-        tasks,
+        pieces: rows_of(&pieces),
+        windows: rows_of(&windows),
+        cores: rows_of(&cores),
+        vcpus: rows_of(&vcpus),
+        tasks: rows_of(&tasks),
         ..Plan::default()
     }
 }
@@ -191,7 +192,7 @@ fn rough_messages() {
             link[3] = rng.pick(&[704, 704, 703, 352, 10_000]);
         }
         for row in 0..plan.frames.len() {
-            let [stream, k, _, link, _] = plan.frames[row];
+            let [stream, k, _, link, ..] = plan.frames[row];
             let [sender, ..] = plan.streams[stream as usize];
             let period = plan.period(sender);
             if loose || rng.chance(30) {

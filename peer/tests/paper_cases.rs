@@ -4,7 +4,8 @@ mod cases;
 
 use cases::{case_a, case_b, case_chain, two_hops, two_rows};
 use peer::image::{
-    point_back, set_word, width, word_at, Trailer, LINK, LONGEST, TABLES, TRAILER, WORD,
+    point_back, row_of, rows_of, set_word, width, word_at, Trailer, LINK, LONGEST, TABLES, TRAILER,
+    WORD,
 };
 use peer::{build, check, naive, report, start, step, step_all, Answer, Plan, State};
 
@@ -227,10 +228,10 @@ fn a_whole_cycle_of_a() {
 fn a_million_jobs_without_a_piece() {
     let mut plan = case_a();
     plan.cycle = 1_000_000;
-    plan.cores[0] = [0, 0, 0];
-    plan.pieces = vec![[255, 999_999, 999_999, 1]];
-    plan.windows = vec![[0, 0, 1_000_000]];
-    plan.tasks = vec![[0, 1, 1, 1, 1]; 256];
+    plan.cores[0] = row_of([0, 0, 0]);
+    plan.pieces = rows_of(&[[255, 999_999, 999_999, 1]]);
+    plan.windows = rows_of(&[[0, 0, 1_000_000]]);
+    plan.tasks = rows_of(&[[0, 1, 1, 1, 1]; 256]);
     for _ in 0..1_000 {
         assert_eq!(check(&plan.encode()), Answer::at(13, 3, 0));
     }
@@ -240,16 +241,16 @@ fn a_million_jobs_without_a_piece() {
 #[test]
 fn no_piece_spans_adjoining_windows() {
     let mut plan = case_a();
-    plan.windows = vec![[0, 0, 5], [0, 5, 5]];
+    plan.windows = rows_of(&[[0, 0, 5], [0, 5, 5]]);
     expect(&plan.encode(), 11, 5, 0);
 }
 
 /// Case A with a second VCPU on the core and these windows; D is T.
 fn a_with(windows: &[[u32; 3]], start: u32) -> Plan {
     let mut plan = case_a();
-    plan.vcpus.push([0]);
+    plan.vcpus.push(row_of([0]));
     plan.tasks[0][4] = 10;
-    plan.windows = windows.to_vec();
+    plan.windows = rows_of(windows);
     plan.pieces[0][2] = start;
     plan
 }
@@ -436,7 +437,7 @@ fn old_images_are_refused() {
 #[track_caller]
 fn expect_chains(chains: &[[u32; 3]], number: u32, row: u32) {
     let mut plan = case_chain();
-    plan.chains = chains.to_vec();
+    plan.chains = rows_of(chains);
     let table = if number == 0 { 0 } else { 10 };
     expect(&plan.encode(), number, table, row);
 }
@@ -481,26 +482,26 @@ fn chains_are_asked_question_by_question() {
 #[test]
 fn chains_are_asked_last() {
     let mut plan = case_chain();
-    plan.chains = vec![[u32::MAX; 3]];
+    plan.chains = rows_of(&[[u32::MAX; 3]]);
     expect(&plan.encode(), 29, 10, 0);
     let broken = plan.clone();
     changed(broken.clone(), |plan| plan.buffers[0][0] = 64, 6, 9, 0);
     changed(broken.clone(), |plan| plan.pieces[2][3] = 5, 13, 3, 2);
     changed(broken, |plan| plan.pieces[2][2] = 15, 29, 10, 0);
     let mut plan = two_rows();
-    plan.chains = vec![[0, 3, 1]];
+    plan.chains = rows_of(&[[0, 3, 1]]);
     changed(plan, |plan| plan.pieces[2][2] = 5, 24, 9, 1);
     let mut plan = case_a();
     plan.tasks.clear();
     plan.pieces.clear();
-    plan.chains = vec![[0, 1, 0]];
+    plan.chains = rows_of(&[[0, 1, 0]]);
     expect(&plan.encode(), 29, 10, 0);
 }
 
 #[test]
 fn chains_are_at_most_32() {
     let mut plan = case_chain();
-    plan.chains = vec![[0, 2, 17]; 33];
+    plan.chains = rows_of(&[[0, 2, 17]; 33]);
     expect(&plan.encode(), 3, 0, 0);
 }
 
@@ -508,7 +509,7 @@ fn chains_are_at_most_32() {
 #[test]
 fn chains_without_a_limit_have_their_period() {
     let mut plan = two_rows();
-    plan.chains = vec![[0, 1, 0]];
+    plan.chains = rows_of(&[[0, 1, 0]]);
     changed(plan.clone(), |plan| plan.precision = 4, 0, 0, 0);
     changed(plan, |plan| plan.precision = 5, 31, 10, 0);
 }
@@ -518,14 +519,15 @@ fn chains_without_a_limit_have_their_period() {
 fn chains_are_asked_of_every_job() {
     let mut plan = two_rows();
     plan.cycle = 20;
-    plan.windows = vec![[0, 0, 20], [1, 0, 20]];
+    plan.windows = rows_of(&[[0, 0, 20], [1, 0, 20]]);
     plan.buffers.truncate(1);
-    for [task, _, start, length] in plan.pieces.clone() {
-        plan.pieces.push([task, 1, start + 10, length]);
+    for mut piece in plan.pieces.clone() {
+        (piece[1], piece[2]) = (1, piece[2] + 10);
+        plan.pieces.push(piece);
     }
     plan.pieces[5][2] += 1;
-    plan.chains = vec![[0, 1, 7]];
+    plan.chains = rows_of(&[[0, 1, 7]]);
     expect(&plan.encode(), 0, 0, 0);
-    plan.chains = vec![[0, 1, 6]];
+    plan.chains = rows_of(&[[0, 1, 6]]);
     expect(&plan.encode(), 31, 10, 0);
 }
