@@ -1,86 +1,100 @@
 #!/usr/bin/env python3
 """images.py SHAPE [SIZE]: writes a plan image that is hard for a checker, or one of a size, to standard output."""
-import struct
 import sys
+from collections import defaultdict
+from pathlib import Path
 
-NAMES = ["core", "vcpu", "task", "window", "piece", "link", "stream", "frame", "buffer", "chain"]
-STARTS = {"window": 1, "piece": 2, "frame": 4}  # which word is the start
+sys.path.insert(0, str(Path(__file__).resolve().parent.parent / "tools"))
+
+from plans.image import encode
+from plans.model import Plan
+from plans.ordering import in_order
+from plans.schema import BY_KIND, KINDS, SETTINGS
+
+# What a word is where a shape does not say. The schema says it of all other words: a column's default, else 0.
+UNSAID = {
+    "task": {"cores": 1, "budget": 1},
+    "window": {"length": 1},
+    "piece": {"length": 1},
+    "link": {"delay": 1, "rate": 352},
+    "stream": {"hops": 1, "payload": 46},
+}
+
+# A core without switches, and its VCPU.
+ONE_CORE = {"core": [{}], "vcpu": [{}]}
 
 
-def in_order(name, rows):
-    """The rows by start, then by their words from the first on, in the tables that have to be in order."""
-    return sorted(rows, key=lambda row: [row[STARTS[name]], *row]) if name in STARTS else rows
+def row(kind, words):
+    """A row by the names of its words."""
+    return BY_KIND[kind].row(**{**UNSAID.get(kind, {}), **words})
 
 
-def encode(cycle, **tables):
+def encoded(cycle, **tables):
     """The image of tables given by name, put in order; those not named are empty. P is 0."""
-    body, trailer = [], [cycle, 0]
-    for name in NAMES:
-        rows = in_order(name, tables.get(name, []))
-        trailer += [4 * len(body), len(rows)]
-        for row in rows:
-            body += row
-    words = body + trailer + [4 * len(body)]
-    return struct.pack(f"<{len(words)}I", *words)
+    tables = {**dict.fromkeys(KINDS, ()), **tables}
+    rows = {kind: [row(kind, words) for words in given] for kind, given in tables.items()}
+    return encode(in_order(Plan(SETTINGS.row(cycle=cycle), rows)))
+
+
+def task(period, **words):
+    """A task that may take its whole period."""
+    return {"period": period, "deadline": period, **words}
 
 
 def many_jobs():
     """H = 1,000,000 and T = 1 for 256 tasks of one core. Task 0 has a piece in each of its first 2,048 jobs, so that question 13 looks
     at as many jobs as it ever can before it says no: 13 3 0."""
-    pieces = [[0, k, k, 1] for k in range(2048)]
-    return encode(1_000_000, core=[[0, 0, 0]], vcpu=[[0]], task=[[0, 1, 1, 1, 1]] * 256, window=[[0, 0, 1_000_000]], piece=pieces)
+    pieces = [dict(job=k, start=k) for k in range(2048)]
+    return encoded(1_000_000, **ONE_CORE, task=[task(1)] * 256, window=[dict(length=1_000_000)], piece=pieces)
 
 
 def windows():
     """1,024 windows of one core and nothing else."""
-    return encode(1024, core=[[0, 0, 0]], vcpu=[[0]], window=[[0, start, 1] for start in range(1024)])
+    return encoded(1024, **ONE_CORE, window=[dict(start=start) for start in range(1024)])
 
 
 def one_job():
     """2,048 pieces of one job of one task in one window."""
-    pieces = [[0, 0, start, 1] for start in range(2048)]
-    return encode(2048, core=[[0, 0, 0]], vcpu=[[0]], task=[[0, 1, 2048, 2048, 2048]], window=[[0, 0, 2048]], piece=pieces)
+    pieces = [dict(start=start) for start in range(2048)]
+    return encoded(2048, **ONE_CORE, task=[task(2048, budget=2048)], window=[dict(length=2048)], piece=pieces)
 
 
 def unit_jobs():
     """2,048 jobs of one tick of one task, in one window."""
-    pieces = [[0, k, k, 1] for k in range(2048)]
-    return encode(2048, core=[[0, 0, 0]], vcpu=[[0]], task=[[0, 1, 1, 1, 1]], window=[[0, 0, 2048]], piece=pieces)
+    pieces = [dict(job=k, start=k) for k in range(2048)]
+    return encoded(2048, **ONE_CORE, task=[task(1)], window=[dict(length=2048)], piece=pieces)
 
 
 def last_window():
     """2,048 pieces of 256 tasks, all in the last of 1,024 windows of one core."""
-    tasks = [[0, 1, 4096, 8, 4096]] * 256
-    windows = [[0, 2 * row, 1] for row in range(1023)] + [[0, 2048, 2048]]
-    pieces = [[start % 256, 0, start, 1] for start in range(2048, 4096)]
-    return encode(4096, core=[[0, 0, 0]], vcpu=[[0]], task=tasks, window=windows, piece=pieces)
+    windows = [dict(start=start) for start in range(0, 2046, 2)] + [dict(start=2048, length=2048)]
+    pieces = [dict(task=start % 256, start=start) for start in range(2048, 4096)]
+    return encoded(4096, **ONE_CORE, task=[task(4096, budget=8)] * 256, window=windows, piece=pieces)
 
 
 def long_buffers():
     """64 buffers between the same two tasks of 1,024 jobs each."""
-    pieces = [[task, k, 2 * k + task, 1] for k in range(1024) for task in (0, 1)]
-    buffers = [[number, 0, 1] for number in range(64)]
-    tasks = [[0, 1, 2, 1, 2]] * 2
-    return encode(2048, core=[[0, 0, 0]], vcpu=[[0]], task=tasks, window=[[0, 0, 2048]], piece=pieces, buffer=buffers)
+    pieces = [dict(task=end, job=k, start=2 * k + end) for k in range(1024) for end in (0, 1)]
+    buffers = [dict(number=number, writer=0, reader=1) for number in range(64)]
+    return encoded(2048, **ONE_CORE, task=[task(2)] * 2, window=[dict(length=2048)], piece=pieces, buffer=buffers)
 
 
 def overlapping():
     """1,024 windows of one VCPU, each but the first begun before the one before it ends, none where another ends: each looks at all others
     for its charge. 8 4 1."""
-    return encode(4096, core=[[0, 0, 0]], vcpu=[[0]], window=[[0, start, 2048] for start in range(1, 1025)])
+    return encoded(4096, **ONE_CORE, window=[dict(start=start, length=2048) for start in range(1, 1025)])
 
 
 def empty():
     """1,024 windows of no ticks, which look at all others too. 7 4 0."""
-    return encode(1025, core=[[0, 0, 0]], vcpu=[[0]], window=[[0, start, 0] for start in range(1, 1025)])
+    return encoded(1025, **ONE_CORE, window=[dict(start=start, length=0) for start in range(1, 1025)])
 
 
 def one_buffer():
     """64 rows of one buffer number between tasks of 16 jobs each, so that question 24 walks along all pairs of rows."""
-    tasks = [[0, 1, 128, 1, 128]] * 128
-    pieces = [[task, k, 128 * k + task, 1] for k in range(16) for task in range(128)]
-    buffers = [[0, 2 * row, 2 * row + 1] for row in range(64)]
-    return encode(2048, core=[[0, 0, 0]], vcpu=[[0]], task=tasks, window=[[0, 0, 2048]], piece=pieces, buffer=buffers)
+    pieces = [dict(task=turn, job=k, start=128 * k + turn) for k in range(16) for turn in range(128)]
+    buffers = [dict(writer=turn, reader=turn + 1) for turn in range(0, 128, 2)]
+    return encoded(2048, **ONE_CORE, task=[task(128)] * 128, window=[dict(length=2048)], piece=pieces, buffer=buffers)
 
 
 def slots(count, lead=0):
@@ -88,28 +102,25 @@ def slots(count, lead=0):
     one hop from the first to the third and a buffer from the first to the second: 32 pieces in all. In every period each has 16 ticks
     of its own, after so many that nobody has."""
     period = lead + 16 * count
-    rows = {name: [] for name in NAMES}
-    rows["core"] = [[0, 1, 1], [1, 1, 1]]
-    rows["vcpu"] = [[0], [1]]
-    rows["link"] = [[0, 1, 1, 352]]
+    rows = defaultdict(list, core=[dict(node=node, d=1, v=1) for node in (0, 1)], vcpu=[dict(core=core) for core in (0, 1)])
+    rows["link"] = [dict(from_node=0, to_node=1)]
     for number in range(count):
         first = 4 * number
-        rows["task"] += [[vcpu, 3, period, 2, period] for vcpu in (0, 0, 1, 1)]
-        rows["stream"].append([first, first + 2, 0, 1, 46])
-        rows["buffer"].append([number, first, first + 1])
+        rows["task"] += [task(period, vcpu=vcpu, cores=3, budget=2) for vcpu in (0, 0, 1, 1)]
+        rows["stream"].append(dict(sender=first, receiver=first + 2))
+        rows["buffer"].append(dict(number=number, writer=first, reader=first + 1))
         for k in range(8):
             start = k * period + lead + 16 * number
-            rows["piece"] += [[first + task, k, start + at, 3] for task, at in enumerate((1, 4, 8, 11))]
-            rows["frame"].append([number, k, 0, 0, start + 4])
+            rows["piece"] += [dict(task=first + turn, job=k, start=start + at, length=3) for turn, at in enumerate((1, 4, 8, 11))]
+            rows["frame"].append(dict(stream=number, job=k, start=start + 4))
     return 8 * period, rows
 
 
 def transactions(count):
     """The slots with a window for every two pieces."""
     cycle, rows = slots(count)
-    starts = range(0, cycle, 16)
-    rows["window"] = [[0, start, 8] for start in starts] + [[1, start + 7, 8] for start in starts]
-    return encode(cycle, **rows)
+    rows["window"] = [dict(vcpu=vcpu, start=start + 7 * vcpu, length=8) for vcpu in (0, 1) for start in range(0, cycle, 16)]
+    return encoded(cycle, **rows)
 
 
 def pieces(count):
@@ -132,66 +143,76 @@ def cores(count, most):
     tasks = count // 8
     rounds = -(-tasks // most)
     period = 8 * -(-rounds // 2)
-    rows = {"core": [[core % 2, 1, 1] for core in range(most)], "vcpu": [[core] for core in range(most)]}
-    rows["task"] = [[task % most, 1 << task % most, period, 2, period] for task in range(tasks)]
-    rows["window"], rows["piece"] = [], []
+    rows = defaultdict(list)
+    for core in range(most):
+        rows["core"].append(dict(node=core % 2, d=1, v=1))
+        rows["vcpu"].append(dict(core=core))
+    rows["task"] = [task(period, vcpu=number % most, cores=1 << number % most, budget=2) for number in range(tasks)]
     for k in range(8):
-        for task in range(tasks):
-            turn = task // most
+        for number in range(tasks):
+            turn = number // most
             start = k * period + 8 * (turn // 2)
-            rows["piece"].append([task, k, start + 1 + 3 * (turn % 2), 3])
+            rows["piece"].append(dict(task=number, job=k, start=start + 1 + 3 * (turn % 2), length=3))
             if turn % 2 == 0:
-                rows["window"].append([task % most, start, 8])
-    return encode(8 * period, **rows)
+                rows["window"].append(dict(vcpu=number % most, start=start, length=8))
+    return encoded(8 * period, **rows)
 
 
 def hard_rows():
     """64 transactions whose windows come last, after 1,022 of a third core, and whose buffers have one number."""
     cycle, rows = slots(64, 1024)
-    rows["core"].append([2, 0, 0])
-    rows["vcpu"].append([2])
-    rows["window"] = [[2, start, 1] for start in range(1022)] + [[core, 1022, cycle - 1022] for core in (0, 1)]
-    rows["buffer"] = [[0, writer, reader] for _, writer, reader in rows["buffer"]]
+    rows["core"].append(dict(node=2))
+    rows["vcpu"].append(dict(core=2))
+    rows["window"] = [dict(vcpu=2, start=start) for start in range(1022)]
+    rows["window"] += [dict(vcpu=vcpu, start=1022, length=cycle - 1022) for vcpu in (0, 1)]
+    rows["buffer"] = [{**buffer, "number": 0} for buffer in rows["buffer"]]
     return cycle, rows
 
 
 def one_number():
     """The hard rows, accepted."""
     cycle, rows = hard_rows()
-    return encode(cycle, **rows)
+    return encoded(cycle, **rows)
 
 
 def refused_late():
     """The hard rows, and the last buffer row repeats the one before it: 24 9 63."""
     cycle, rows = hard_rows()
     rows["buffer"][63] = rows["buffer"][62]
-    return encode(cycle, **rows)
+    return encoded(cycle, **rows)
 
 
 def two_nodes(period):
     """A core with one window on each of two nodes, and a link each way."""
-    window = [[0, 0, period], [1, 0, period]]
-    return {"core": [[0, 0, 0], [1, 0, 0]], "vcpu": [[0], [1]], "window": window, "link": [[0, 1, 1, 352], [1, 0, 1, 352]]}
+    return {
+        "core": [dict(node=node) for node in (0, 1)],
+        "vcpu": [dict(core=core) for core in (0, 1)],
+        "window": [dict(vcpu=vcpu, length=period) for vcpu in (0, 1)],
+        "link": [dict(from_node=node, to_node=1 - node) for node in (0, 1)],
+    }
+
+
+def row_of_tasks(count, across, period):
+    """Tasks of one tick, one after another: so many take turns on two nodes, and all others are on the first."""
+    tasks = [task(period, vcpu=number % 2 if number < across else 0, cores=3) for number in range(count)]
+    return {"task": tasks, "piece": [dict(task=number, start=16 * number) for number in range(count)]}
 
 
 def diamond():
     """Two messages between neighbours along a row of 64 tasks, streams between two nodes and then buffers on one: 2^63 paths. Each of 32
     chains goes to one more task, which only the last message of the first task leads to, so that a walk looks at all others before."""
     period = 16 * 66
-    tasks = [[row % 2 if row < 33 else 0, 3, period, 1, period] for row in range(65)]
-    pairs = [(row, row + 1) for row in range(63)]
-    streams = [[first, last, 0, 1, 46] for first, last in pairs[:32] for _ in range(2)]
-    frames = [[row, 0, 0, first % 2, 16 * first + 4 + 4 * (row % 2)] for row, (first, *_) in enumerate(streams)]
-    buffers = [list(pair) for pair in pairs[32:] for _ in range(2)] + [[0, 64], [0, 64]]
-    return encode(
+    pairs = [(number, number + 1) for number in range(63) for _ in range(2)]
+    frames = [dict(stream=number, link=first % 2, start=16 * first + 4 + 4 * (number % 2)) for number, (first, _) in enumerate(pairs[:64])]
+    buffers = pairs[64:] + [(0, 64)] * 2
+    return encoded(
         period,
         **two_nodes(period),
-        task=tasks,
-        piece=[[row, 0, 16 * row, 1] for row in range(65)],
-        stream=streams,
+        **row_of_tasks(65, 33, period),
+        stream=[dict(sender=first, receiver=last) for first, last in pairs[:64]],
         frame=frames,
-        buffer=[[number, *ends] for number, ends in enumerate(buffers)],
-        chain=[[0, 64, 0]] * 32,
+        buffer=[dict(number=number, writer=first, reader=last) for number, (first, last) in enumerate(buffers)],
+        chain=[dict(first=0, last=64)] * 32,
     )
 
 
@@ -199,16 +220,15 @@ def long_chain():
     """One path of 127 messages, streams between two nodes and then buffers on one, and 32 chains from its first task to one that only the
     last message leads to: a walk looks at every message from every task."""
     period = 16 * 129
-    tasks = [[row % 2 if row < 65 else 0, 3, period, 1, period] for row in range(129)]
-    return encode(
+    buffers = [dict(number=number, writer=64 + number, reader=65 + number) for number in range(63)]
+    return encoded(
         period,
         **two_nodes(period),
-        task=tasks,
-        piece=[[row, 0, 16 * row, 1] for row in range(129)],
-        stream=[[row, row + 1, 0, 1, 46] for row in range(64)],
-        frame=[[row, 0, 0, row % 2, 16 * row + 4] for row in range(64)],
-        buffer=[[number, 64 + number, 65 + number] for number in range(63)] + [[63, 0, 128]],
-        chain=[[0, 128, 0]] * 32,
+        **row_of_tasks(129, 65, period),
+        stream=[dict(sender=number, receiver=number + 1) for number in range(64)],
+        frame=[dict(stream=number, link=number % 2, start=16 * number + 4) for number in range(64)],
+        buffer=[*buffers, dict(number=63, writer=0, reader=128)],
+        chain=[dict(first=0, last=128)] * 32,
     )
 
 

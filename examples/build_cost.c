@@ -15,22 +15,25 @@
 
 #include "reaperdecade.h"
 
-static uint8_t image[65536];
+/* More bytes than any image has. */
+static uint8_t image[1 << 20];
 static uint8_t words[4 * RD_ALL_LANES_WORDS];
 
-static uint32_t word_at(size_t i)
+static uint32_t word_at(const uint8_t *b)
 {
-    const uint8_t *b = words + 4 * i;
-
     return (uint32_t)b[0] | (uint32_t)b[1] << 8 | (uint32_t)b[2] << 16 | (uint32_t)b[3] << 24;
 }
 
-/* A word of the image's trailer. */
-static uint32_t trailer_word(size_t length, size_t i)
+/*
+ * The lanes of an accepted plan, its cores and its links. The last word of its
+ * image tells where the trailer begins: H, P, then the offset and the number of
+ * rows of each table. Cores are the first table, links the sixth.
+ */
+static uint32_t lanes_of(size_t length)
 {
-    const uint8_t *b = image + length - 92 + 4 * i;
+    const uint8_t *trailer = image + word_at(image + length - 4);
 
-    return (uint32_t)b[0] | (uint32_t)b[1] << 8 | (uint32_t)b[2] << 16 | (uint32_t)b[3] << 24;
+    return word_at(trailer + 4 * 3) + word_at(trailer + 4 * 13);
 }
 
 int main(int argc, char **argv)
@@ -39,8 +42,7 @@ int main(int argc, char **argv)
     size_t length;
     size_t first = 0;
     uint64_t answer = 0;
-    uint32_t lanes;
-    uint32_t lane;
+    uint32_t lane = 0;
     int all;
 
     if (argc != 3 || (from = fopen(argv[2], "rb")) == NULL) {
@@ -50,24 +52,20 @@ int main(int argc, char **argv)
     all = strcmp(argv[1], "all") == 0;
     length = fread(image, 1, sizeof image, from);
     fclose(from);
-    if (length < 92) {
-        fprintf(stderr, "build_cost: no image\n");
-        return 2;
-    }
-    lanes = trailer_word(length, 3) + trailer_word(length, 13);
     if (all) {
         answer = rd_build_all(image, length, words, sizeof words);
     }
-    for (lane = 0; lane < lanes && answer == 0; lane++) {
+    do { /* an accepted plan has a lane 0 */
         if (!all) {
             answer = rd_build(image, length, lane, words + 4 * first, sizeof words - 4 * first);
         }
-        first += 2 + 3 * (size_t)word_at(first + 1);
-    }
-    if (answer != 0) {
-        printf("refused: %u\n", (unsigned)rd_answer_number(answer));
-        return 1;
-    }
-    printf("%u lanes, %lu words\n", (unsigned)lanes, (unsigned long)first);
+        if (answer != 0) {
+            printf("refused: %u\n", (unsigned)rd_answer_number(answer));
+            return 1;
+        }
+        first += 2 + 3 * (size_t)word_at(words + 4 * (first + 1));
+        lane++;
+    } while (lane < lanes_of(length));
+    printf("%u lanes, %lu words\n", (unsigned)lane, (unsigned long)first);
     return 0;
 }

@@ -50,7 +50,8 @@ static inline uint32_t rd_answer_row(uint64_t answer)
 }
 
 /*
- * Checks a plan image: questions 1 to 5, 32, 6 to 24, then 29 to 31.
+ * Checks a plan image: asks the check's questions, which README.md lists in
+ * the order asked.
  *
  * image      image_len bytes, which are only read.
  *

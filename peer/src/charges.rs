@@ -1,6 +1,6 @@
 //! What each window pays for the switch to its VCPU.
 
-use crate::image::Plan;
+use crate::image::{Plan, Window};
 
 /// The ticks of the VCPU switch at the front of each window, by row: v of its
 /// core, or 0 where another window of its VCPU ends at the tick at which it
@@ -10,7 +10,7 @@ use crate::image::Plan;
 /// after the cycle.
 pub fn charges(plan: &Plan) -> Vec<u32> {
     let ends = sorted_ends(&plan.windows);
-    let charge = |window: &[u32; 3]| {
+    let charge = |window: &Window| {
         if keeps_core(&ends, window) {
             0
         } else {
@@ -24,8 +24,8 @@ pub fn charges(plan: &Plan) -> Vec<u32> {
 type Place = (u32, u64);
 
 /// Where the windows of each VCPU end.
-fn sorted_ends(windows: &[[u32; 3]]) -> Vec<Place> {
-    let end = |&[vcpu, start, length]: &[u32; 3]| (vcpu, u64::from(start) + u64::from(length));
+fn sorted_ends(windows: &[Window]) -> Vec<Place> {
+    let end = |&[vcpu, start, length, ..]: &Window| (vcpu, u64::from(start) + u64::from(length));
     let mut ends: Vec<Place> = windows.iter().map(end).collect();
     ends.sort_unstable();
     ends
@@ -33,7 +33,7 @@ fn sorted_ends(windows: &[[u32; 3]]) -> Vec<Place> {
 
 /// Whether another window of the VCPU ends where this one begins. One that is
 /// empty ends there itself, and so has to find a second end.
-fn keeps_core(ends: &[Place], &[vcpu, start, length]: &[u32; 3]) -> bool {
+fn keeps_core(ends: &[Place], &[vcpu, start, length, ..]: &Window) -> bool {
     let begin = (vcpu, u64::from(start));
     let first = ends.partition_point(|end| *end < begin);
     let own = usize::from(length == 0);
@@ -43,15 +43,17 @@ fn keeps_core(ends: &[Place], &[vcpu, start, length]: &[u32; 3]) -> bool {
 #[cfg(test)]
 mod tests {
     use super::*;
+    use crate::image::rows_of;
     use crate::rng::Rng;
 
-    /// Two VCPUs on one core, v = 3, and a third one on another, v = 4.
+    /// Two VCPUs on one core, v = 3, and a third one on another, v = 4; windows
+    /// of these words.
     fn plan(windows: &[[u32; 3]]) -> Plan {
         Plan {
             cycle: 20,
-            cores: vec![[0, 0, 3], [0, 0, 4]],
-            vcpus: vec![[0], [0], [1]],
-            windows: windows.to_vec(),
+            cores: rows_of(&[[0, 0, 3], [0, 0, 4]]),
+            vcpus: rows_of(&[[0], [0], [1]]),
+            windows: rows_of(windows),
             ..Plan::default()
         }
     }

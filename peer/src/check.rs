@@ -1,4 +1,4 @@
-//! Questions 1 to 24 and 29 to 32, in the papers' order: 32 comes after 5.
+//! The questions of `questions`, in the papers' order.
 //!
 //! Each question may rely on a yes to those before it. Sums and products are
 //! taken in 64 bits, where no words of 32 bits can make them wrap.
@@ -6,8 +6,8 @@
 use crate::answer::Answer;
 use crate::charges::charges;
 use crate::image::{
-    word_at, Link, Plan, Trailer, BUFFER, CHAIN, CORE, FRAME, LINK, LONGEST, PIECE, ROW_BOUNDS,
-    STREAM, TASK, TRAILER, VCPU, WIDTHS, WINDOW, WORD,
+    word_at, Buffer, Chain, Frame, Link, Piece, Plan, Stream, Trailer, Window, BUFFER, CHAIN, CORE,
+    FRAME, LINK, LONGEST, PIECE, ROW_BOUNDS, STREAM, TASK, TRAILER, VCPU, WIDTHS, WINDOW, WORD,
 };
 use crate::intervals::{lowest_clash, Interval};
 use crate::jobs::{Job, Jobs};
@@ -110,17 +110,17 @@ fn tables_adjoin(trailer: &Trailer, trailer_begin: u64) -> bool {
 fn ask_references(plan: &Plan) -> Result<(), Answer> {
     let [cores, vcpus, tasks, _, _, links, streams, ..] = plan.counts();
     let names = |number: u32, rows: usize| (number as usize) < rows;
-    ask(5, VCPU, &plan.vcpus, |&[core]| names(core, cores))?;
+    ask(5, VCPU, &plan.vcpus, |&[core, ..]| names(core, cores))?;
     ask(5, TASK, &plan.tasks, |&[vcpu, ..]| names(vcpu, vcpus))?;
     ask(5, WINDOW, &plan.windows, |&[vcpu, ..]| names(vcpu, vcpus))?;
     ask(5, PIECE, &plan.pieces, |&[task, ..]| names(task, tasks))?;
     ask(5, STREAM, &plan.streams, |&[sender, receiver, ..]| {
         names(sender, tasks) && names(receiver, tasks)
     })?;
-    ask(5, FRAME, &plan.frames, |&[stream, _, _, link, _]| {
+    ask(5, FRAME, &plan.frames, |&[stream, _, _, link, ..]| {
         names(stream, streams) && names(link, links)
     })?;
-    ask(5, BUFFER, &plan.buffers, |&[_, writer, reader]| {
+    ask(5, BUFFER, &plan.buffers, |&[_, writer, reader, ..]| {
         names(writer, tasks) && names(reader, tasks)
     })
 }
@@ -136,27 +136,24 @@ fn ask_order(plan: &Plan) -> Result<(), Answer> {
 /// Question 6.
 fn ask_ranges(plan: &Plan) -> Result<(), Answer> {
     let cycle = plan.cycle;
-    ask(6, CORE, &plan.cores, |&[node, d, v]| {
+    ask(6, CORE, &plan.cores, |&[node, d, v, ..]| {
         node <= 15 && d <= 1_000 && v <= 1_000
     })?;
-    ask(6, TASK, &plan.tasks, |&[_, _, period, budget, deadline]| {
+    ask(6, TASK, &plan.tasks, |task| {
+        let [_, _, period, budget, deadline, ..] = *task;
         let divides = 1 <= period && cycle.is_multiple_of(period);
         divides && 1 <= budget && budget <= deadline && deadline <= period
     })?;
-    ask(6, LINK, &plan.links, |&[from, to, delay, rate]| {
+    ask(6, LINK, &plan.links, |&[from, to, delay, rate, ..]| {
         let ends = from <= 15 && to <= 15 && from != to;
         ends && delay <= 1_000_000 && (1..=10_000).contains(&rate)
     })?;
-    ask(
-        6,
-        STREAM,
-        &plan.streams,
-        |&[sender, receiver, latency, hops, payload]| {
-            let route = sender != receiver && (1..=8).contains(&hops);
-            route && latency <= 1_000_000 && (46..=1_500).contains(&payload)
-        },
-    )?;
-    ask(6, BUFFER, &plan.buffers, |&[number, writer, reader]| {
+    ask(6, STREAM, &plan.streams, |stream| {
+        let [sender, receiver, latency, hops, payload, ..] = *stream;
+        let route = sender != receiver && (1..=8).contains(&hops);
+        route && latency <= 1_000_000 && (46..=1_500).contains(&payload)
+    })?;
+    ask(6, BUFFER, &plan.buffers, |&[number, writer, reader, ..]| {
         number <= 63 && writer != reader
     })
 }
@@ -164,10 +161,11 @@ fn ask_ranges(plan: &Plan) -> Result<(), Answer> {
 /// Questions 7 and 8.
 fn ask_windows(plan: &Plan, charges: &[u32]) -> Result<(), Answer> {
     let charged: Vec<_> = plan.windows.iter().zip(charges).collect();
-    ask(7, WINDOW, &charged, |&(&[_, start, length], &charge)| {
+    ask(7, WINDOW, &charged, |&(window, &charge)| {
+        let [_, start, length, ..] = *window;
         length > charge && wide(start) + wide(length) <= wide(plan.cycle)
     })?;
-    let windows = intervals(&plan.windows, |&[vcpu, start, length]| {
+    let windows = intervals(&plan.windows, |&[vcpu, start, length, ..]| {
         (plan.core_of_vcpu(vcpu), start, length)
     });
     ask_apart(8, WINDOW, &windows)
@@ -184,17 +182,17 @@ fn ask_masks(plan: &Plan) -> Result<(), Answer> {
 fn ask_pieces(plan: &Plan, charges: &[u32]) -> Result<(), Answer> {
     ask(10, PIECE, &plan.pieces, |piece| piece_in_job(plan, piece))?;
     let windows = VcpuWindows::of(plan, charges);
-    ask(11, PIECE, &plan.pieces, |&[task, _, start, length]| {
+    ask(11, PIECE, &plan.pieces, |&[task, _, start, length, ..]| {
         windows.hold(plan.tasks[task as usize][0], start, start + length)
     })?;
-    let pieces = intervals(&plan.pieces, |&[task, _, start, length]| {
+    let pieces = intervals(&plan.pieces, |&[task, _, start, length, ..]| {
         (plan.core_of_task(task), start, length)
     });
     ask_apart(12, PIECE, &pieces)
 }
 
-fn piece_in_job(plan: &Plan, &[task, k, start, length]: &[u32; 4]) -> bool {
-    let [_, _, period, _, deadline] = plan.tasks[task as usize];
+fn piece_in_job(plan: &Plan, &[task, k, start, length, ..]: &Piece) -> bool {
+    let [_, _, period, _, deadline, ..] = plan.tasks[task as usize];
     let release = wide(k) * wide(period);
     let due = release + wide(deadline);
     let end = wide(start) + wide(length);
@@ -220,7 +218,7 @@ struct VcpuWindow {
 
 impl VcpuWindows {
     fn of(plan: &Plan, charges: &[u32]) -> VcpuWindows {
-        let window = |(&[vcpu, start, length], &charge): (&[u32; 3], &u32)| VcpuWindow {
+        let window = |(&[vcpu, start, length, ..], &charge): (&Window, &u32)| VcpuWindow {
             vcpu,
             opens: start,
             free: start + charge,
@@ -267,8 +265,8 @@ fn ask_streams(plan: &Plan, jobs: &Jobs) -> Result<(), Answer> {
     network.ask_each_job(21, Network::is_in_time)
 }
 
-fn frame_in_job(plan: &Plan, &[stream, k, hop, link, start]: &[u32; 5]) -> bool {
-    let [sender, _, _, hops, _] = plan.streams[stream as usize];
+fn frame_in_job(plan: &Plan, &[stream, k, hop, link, start, ..]: &Frame) -> bool {
+    let [sender, _, _, hops, ..] = plan.streams[stream as usize];
     let period = wide(plan.period(sender));
     let end = wide(start) + wide(plan.frame_ticks(stream, link));
     let (from, until) = (wide(k) * period, (wide(k) + 1) * period);
@@ -284,7 +282,7 @@ struct Network<'a> {
 
 /// One job of a stream.
 struct Message<'a> {
-    stream: [u32; 5],
+    stream: Stream,
     sender: &'a Job,
     receiver: &'a Job,
     /// The frame rows, hop by hop.
@@ -307,7 +305,7 @@ impl Network<'_> {
 
     fn messages(&self, row: usize) -> impl Iterator<Item = Message<'_>> {
         let stream = self.plan.streams[row];
-        let [sender, receiver, _, hops, _] = stream;
+        let [sender, receiver, _, hops, ..] = stream;
         let routes = self.routes.of_stream(row as u32);
         let senders = self.jobs.of_task(sender).iter();
         let receivers = self.jobs.of_task(receiver).iter();
@@ -342,14 +340,14 @@ impl Network<'_> {
     /// The tick from which all clocks agree that a frame has arrived: its
     /// end + delay + P.
     fn arrival(&self, frame: u32) -> u64 {
-        let [stream, _, _, link, start] = self.plan.frames[frame as usize];
+        let [stream, _, _, link, start, ..] = self.plan.frames[frame as usize];
         let end = wide(start) + wide(self.plan.frame_ticks(stream, link));
         let delay = self.plan.links[link as usize][2];
         end + wide(delay) + wide(self.plan.precision)
     }
 
     /// Question 18 for one frame.
-    fn follows(&self, &[stream, k, hop, _, start]: &[u32; 5]) -> bool {
+    fn follows(&self, &[stream, k, hop, _, start, ..]: &Frame) -> bool {
         if hop == 0 {
             return true;
         }
@@ -361,7 +359,7 @@ impl Network<'_> {
 
     fn frames_on_links(&self) -> Vec<Interval> {
         let plan = self.plan;
-        intervals(&plan.frames, |&[stream, _, _, link, start]| {
+        intervals(&plan.frames, |&[stream, _, _, link, start, ..]| {
             (link, start, plan.frame_ticks(stream, link))
         })
     }
@@ -377,7 +375,7 @@ impl Network<'_> {
 
     /// Question 21 for one job.
     fn is_in_time(&self, message: &Message) -> bool {
-        let [sender, _, latency, _, _] = message.stream;
+        let [sender, _, latency, ..] = message.stream;
         let bound = match latency {
             0 => self.plan.period(sender),
             given => given,
@@ -389,11 +387,11 @@ impl Network<'_> {
 
 /// Questions 22 to 24.
 fn ask_buffers(plan: &Plan, jobs: &Jobs) -> Result<(), Answer> {
-    ask(22, BUFFER, &plan.buffers, |&[_, writer, reader]| {
+    ask(22, BUFFER, &plan.buffers, |&[_, writer, reader, ..]| {
         plan.period(writer) == plan.period(reader)
             && plan.node_of_task(writer) == plan.node_of_task(reader)
     })?;
-    ask(23, BUFFER, &plan.buffers, |&[_, writer, reader]| {
+    ask(23, BUFFER, &plan.buffers, |&[_, writer, reader, ..]| {
         let pairs = jobs.of_task(writer).iter().zip(jobs.of_task(reader));
         pairs.into_iter().all(|(w, r)| w.last_end <= r.first_start)
     })?;
@@ -402,7 +400,7 @@ fn ask_buffers(plan: &Plan, jobs: &Jobs) -> Result<(), Answer> {
 
 /// The holds of all buffers that more than one row names.
 fn shared_holds(plan: &Plan, jobs: &Jobs) -> Vec<Interval> {
-    let buffer = |&[number, writer, _]: &[u32; 3]| number * 16 + plan.node_of_task(writer);
+    let buffer = |&[number, writer, ..]: &Buffer| number * 16 + plan.node_of_task(writer);
     let mut rows_of = [0; 64 * 16];
     for row in &plan.buffers {
         rows_of[buffer(row) as usize] += 1;
@@ -411,7 +409,7 @@ fn shared_holds(plan: &Plan, jobs: &Jobs) -> Vec<Interval> {
     for (row, buffer_row) in plan.buffers.iter().enumerate() {
         let place = buffer(buffer_row);
         if rows_of[place as usize] > 1 {
-            let [_, writer, reader] = *buffer_row;
+            let [_, writer, reader, ..] = *buffer_row;
             let pairs = jobs.of_task(writer).iter().zip(jobs.of_task(reader));
             holds.extend(pairs.map(|(writer, reader)| Interval {
                 place,
@@ -427,11 +425,11 @@ fn shared_holds(plan: &Plan, jobs: &Jobs) -> Vec<Interval> {
 /// Questions 29 to 31.
 fn ask_chains(plan: &Plan, jobs: &Jobs) -> Result<(), Answer> {
     let exists = |task: u32| (task as usize) < plan.tasks.len();
-    ask(29, CHAIN, &plan.chains, |&[first, last, _]| {
+    ask(29, CHAIN, &plan.chains, |&[first, last, ..]| {
         exists(first) && exists(last) && first != last
     })?;
     let paths = Paths::of(plan);
-    ask(30, CHAIN, &plan.chains, |&[first, last, _]| {
+    ask(30, CHAIN, &plan.chains, |&[first, last, ..]| {
         paths.join(first, last)
     })?;
     ask(31, CHAIN, &plan.chains, |chain| {
@@ -441,7 +439,7 @@ fn ask_chains(plan: &Plan, jobs: &Jobs) -> Result<(), Answer> {
 
 /// Question 31 for one chain. Along a path all periods are equal, by 14 and
 /// 22, so that its ends have equally many jobs.
-fn chain_in_time(plan: &Plan, jobs: &Jobs, &[first, last, limit]: &[u32; 3]) -> bool {
+fn chain_in_time(plan: &Plan, jobs: &Jobs, &[first, last, limit, ..]: &Chain) -> bool {
     let limit = match limit {
         0 => plan.period(first),
         given => given,

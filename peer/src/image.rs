@@ -55,40 +55,64 @@ pub const LONGEST: usize = {
     length
 };
 
+// A row of each table: its words in the paper's order. A row is taken apart
+// as `[first, second, ..]` and made by `row_of`, so that a wider row is a
+// change of `WIDTHS` alone.
+
+/// node, d, v
+pub type Core = [u32; width(CORE)];
+/// core
+pub type Vcpu = [u32; width(VCPU)];
+/// VCPU, core mask, period T, budget C, deadline D
+pub type Task = [u32; width(TASK)];
+/// VCPU, start, length
+pub type Window = [u32; width(WINDOW)];
+/// task, job k, start, length
+pub type Piece = [u32; width(PIECE)];
 /// from node, to node, delay, rate
 pub type Link = [u32; width(LINK)];
+/// sender task, receiver task, latency E, hops, payload
+pub type Stream = [u32; width(STREAM)];
+/// stream, job k, hop, link, start
+pub type Frame = [u32; width(FRAME)];
+/// buffer number, writer task, reader task
+pub type Buffer = [u32; width(BUFFER)];
+/// first task, last task, limit
+pub type Chain = [u32; width(CHAIN)];
+
+/// The row that begins with these words; the words after them are 0.
+pub fn row_of<const N: usize, const W: usize>(words: [u32; N]) -> [u32; W] {
+    let mut row = [0; W];
+    row[..N].copy_from_slice(&words);
+    row
+}
+
+/// The same for many.
+pub fn rows_of<const N: usize, const W: usize>(rows: &[[u32; N]]) -> Vec<[u32; W]> {
+    rows.iter().copied().map(row_of).collect()
+}
 
 /// Bytes of a frame besides its payload: header, check, preamble and gap of
 /// tagged Ethernet.
 const FRAMING: u32 = 42;
 
-/// A plan as plain rows, each an array of its words in the paper's order.
+/// A plan as plain rows.
 #[derive(Clone, Debug, Default, PartialEq, Eq)]
 pub struct Plan {
     /// H
     pub cycle: u32,
     /// P
     pub precision: u32,
-    /// node, d, v
-    pub cores: Vec<[u32; width(CORE)]>,
-    /// core
-    pub vcpus: Vec<[u32; width(VCPU)]>,
-    /// VCPU, core mask, period T, budget C, deadline D
-    pub tasks: Vec<[u32; width(TASK)]>,
-    /// VCPU, start, length
-    pub windows: Vec<[u32; width(WINDOW)]>,
-    /// task, job k, start, length
-    pub pieces: Vec<[u32; width(PIECE)]>,
-    /// from node, to node, delay, rate
+    pub cores: Vec<Core>,
+    pub vcpus: Vec<Vcpu>,
+    pub tasks: Vec<Task>,
+    pub windows: Vec<Window>,
+    pub pieces: Vec<Piece>,
     pub links: Vec<Link>,
-    /// sender task, receiver task, latency E, hops, payload
-    pub streams: Vec<[u32; width(STREAM)]>,
-    /// stream, job k, hop, link, start
-    pub frames: Vec<[u32; width(FRAME)]>,
-    /// buffer number, writer task, reader task
-    pub buffers: Vec<[u32; width(BUFFER)]>,
-    /// first task, last task, limit
-    pub chains: Vec<[u32; width(CHAIN)]>,
+    pub streams: Vec<Stream>,
+    pub frames: Vec<Frame>,
+    pub buffers: Vec<Buffer>,
+    pub chains: Vec<Chain>,
 }
 
 /// What the trailer says: H, P, and each table's byte offset and row count.
@@ -110,14 +134,15 @@ pub fn set_word(image: &mut [u8], byte: usize, word: u32) {
     image[byte..byte + WORD].copy_from_slice(&word.to_le_bytes());
 }
 
-/// Makes the last word of at least 92 bytes the length less 92.
+/// Makes the last word of an image the length less the trailer's; the image
+/// is at least that long.
 pub fn point_back(image: &mut [u8]) {
     let length = image.len();
     set_word(image, length - WORD, (length - TRAILER) as u32);
 }
 
 impl Trailer {
-    /// Reads the trailer of an image of at least 92 bytes.
+    /// Reads the trailer of an image that is at least that long.
     pub fn read(image: &[u8]) -> Trailer {
         let begin = image.len() - TRAILER;
         let field = |index: usize| word_at(image, begin + index * WORD);
@@ -235,8 +260,8 @@ impl Plan {
     /// The ticks that a frame of the stream takes on the link, where payload
     /// and rate are in range.
     pub fn frame_ticks(&self, stream: u32, link: u32) -> u32 {
-        let [_, _, _, _, payload] = self.streams[stream as usize];
-        let [_, _, _, rate] = self.links[link as usize];
+        let [_, _, _, _, payload, ..] = self.streams[stream as usize];
+        let [_, _, _, rate, ..] = self.links[link as usize];
         (8 * (payload + FRAMING)).div_ceil(rate)
     }
 

@@ -41,7 +41,7 @@ impl Jobs {
     pub fn of(plan: &Plan) -> Result<Jobs, Answer> {
         let jobs = Jobs::of_leading_tasks(plan);
         let whole = |task: &usize| {
-            let [_, _, _, budget, _] = plan.tasks[*task];
+            let [_, _, _, budget, ..] = plan.tasks[*task];
             let switch = u64::from(plan.task_switch(*task as u32));
             jobs.of_task(*task as u32)
                 .iter()
@@ -67,7 +67,7 @@ impl Jobs {
         let begins = leading_begins(plan);
         let leading = begins.len() - 1;
         let mut jobs = vec![NO_PIECE; begins[leading]];
-        for &[task, k, start, length] in &plan.pieces {
+        for &[task, k, start, length, ..] in &plan.pieces {
             if (task as usize) < leading {
                 jobs[begins[task as usize] + k as usize].add(start, length);
             }

@@ -1,18 +1,21 @@
 //! A deliberately naive twin: the paper's sentences, one by one, over all
-//! rows, pairs and ticks. It shares no code with the rest but the answer,
-//! the state and the boundary's trait, and is there to be compared with.
+//! rows, pairs and ticks. It is there to be compared with, and shares no code
+//! with the rest but the answer, the state and the boundary's trait. The list
+//! of questions and the sizes of rows and tables stand in one place for both.
 
 use crate::answer::Answer;
 use crate::boundary::Boundary;
 use crate::dispatch::State;
+use crate::image::{LONGEST, ROW_BOUNDS, TABLES, TRAILER, WIDTHS};
+use crate::questions::QUESTIONS;
 
 /// A number that no sum or product of words comes near the ends of.
 type Number = i128;
 
-/// By table number; the tables count from 1.
-const WORDS_OF_A_ROW: [Number; 11] = [0, 3, 1, 5, 3, 4, 4, 5, 5, 3, 3];
-const LEAST_ROWS: [Number; 11] = [0, 1, 0, 0, 0, 0, 0, 0, 0, 0, 0];
-const MOST_ROWS: [Number; 11] = [0, 32, 64, 256, 1024, 2048, 64, 64, 512, 64, 32];
+/// Words of a row. The tables count from 1.
+fn words_of_a_row(table: usize) -> Number {
+    WIDTHS[table - 1] as Number
+}
 
 const CORE: usize = 1;
 const VCPU: usize = 2;
@@ -31,10 +34,10 @@ enum No {
     Row(usize, Number),
 }
 
-/// Questions 1 to 5, then 32, then 6 to 24, then 29 to 31.
+/// All questions, in the order of their list.
 pub fn check(image: &[u8]) -> Answer {
     let asked = Image { bytes: image };
-    for number in (1..=5).chain(32..=32).chain(6..=24).chain(29..=31) {
+    for &number in QUESTIONS {
         match asked.question(number) {
             None => {}
             Some(No::Plain) => return Answer::plain(number),
@@ -93,8 +96,12 @@ impl Image<'_> {
         self.word(self.length() - 4)
     }
 
+    fn trailer_begin(&self) -> Number {
+        self.length() - TRAILER as Number
+    }
+
     fn trailer(&self, index: Number) -> Number {
-        self.word(self.length() - 92 + 4 * index)
+        self.word(self.trailer_begin() + 4 * index)
     }
 
     fn cycle(&self) -> Number {
@@ -114,11 +121,11 @@ impl Image<'_> {
     }
 
     fn end(&self, table: usize) -> Number {
-        self.offset(table) + 4 * WORDS_OF_A_ROW[table] * self.rows(table)
+        self.offset(table) + 4 * words_of_a_row(table) * self.rows(table)
     }
 
     fn cell(&self, table: usize, row: Number, column: Number) -> Number {
-        self.word(self.offset(table) + 4 * (WORDS_OF_A_ROW[table] * row + column))
+        self.word(self.offset(table) + 4 * (words_of_a_row(table) * row + column))
     }
 }
 
@@ -335,8 +342,8 @@ fn overlap(a: Number, b: Number, c: Number, d: Number) -> bool {
 impl Image<'_> {
     fn question(&self, number: u32) -> Option<No> {
         match number {
-            1 => plain((92..=64_604).contains(&self.length())),
-            2 => plain(self.last_word() == self.length() - 92),
+            1 => plain((TRAILER..=LONGEST).contains(&self.bytes.len())),
+            2 => plain(self.last_word() == self.trailer_begin()),
             3 => plain(self.layout_is_right()),
             4 => plain((1..=1_000_000).contains(&self.cycle()) && self.precision() <= 10_000),
             5 => self.each_row(|table, row| self.row_numbers_exist(table, row)),
@@ -367,13 +374,13 @@ impl Image<'_> {
                 .find_map(|(table, start)| {
                     self.each(table, |row| row == 0 || self.rises(table, start, row))
                 }),
-            _ => None,
+            _ => unreachable!("question {number} is listed and never asked"),
         }
     }
 
     /// All rows of all tables, lowest table first, then lowest row.
     fn each_row(&self, yes: impl Fn(usize, Number) -> bool) -> Option<No> {
-        (1..=10).find_map(|table| self.each(table, |row| yes(table, row)))
+        (1..=TABLES).find_map(|table| self.each(table, |row| yes(table, row)))
     }
 
     fn each(&self, table: usize, yes: impl Fn(Number) -> bool) -> Option<No> {
@@ -387,12 +394,14 @@ impl Image<'_> {
     }
 
     fn layout_is_right(&self) -> bool {
-        let bounds =
-            |table: usize| (LEAST_ROWS[table]..=MOST_ROWS[table]).contains(&self.rows(table));
-        (1..=10).all(bounds)
+        let bounds = |table: usize| {
+            let (least, most) = ROW_BOUNDS[table - 1];
+            Number::from(least) <= self.rows(table) && self.rows(table) <= Number::from(most)
+        };
+        (1..=TABLES).all(bounds)
             && self.offset(1) == 0
-            && (2..=10).all(|table| self.offset(table) == self.end(table - 1))
-            && self.end(10) == self.last_word()
+            && (2..=TABLES).all(|table| self.offset(table) == self.end(table - 1))
+            && self.end(TABLES) == self.last_word()
     }
 
     fn row_numbers_exist(&self, table: usize, row: Number) -> bool {
@@ -441,7 +450,7 @@ impl Image<'_> {
     /// the first word, else the second, and so on.
     fn rises(&self, table: usize, start: Number, row: Number) -> bool {
         let mut columns = vec![start];
-        columns.extend(0..WORDS_OF_A_ROW[table]);
+        columns.extend(0..words_of_a_row(table));
         for column in columns {
             let before = self.cell(table, row - 1, column);
             let own = self.cell(table, row, column);

@@ -57,13 +57,14 @@ impl Paths {
 #[cfg(test)]
 mod tests {
     use super::*;
+    use crate::image::{row_of, rows_of};
     use crate::rng::Rng;
 
     fn plan(tasks: u32, streams: &[[u32; 2]], buffers: &[[u32; 2]]) -> Plan {
         Plan {
-            tasks: vec![[0; 5]; tasks as usize],
-            streams: streams.iter().map(|&[a, b]| [a, b, 0, 1, 46]).collect(),
-            buffers: buffers.iter().map(|&[a, b]| [0, a, b]).collect(),
+            tasks: vec![row_of([]); tasks as usize],
+            streams: rows_of(streams),
+            buffers: buffers.iter().map(|&[a, b]| row_of([0, a, b])).collect(),
             ..Plan::default()
         }
     }

@@ -55,7 +55,7 @@ fn leading_begins(plan: &Plan) -> Vec<usize> {
     }
     let mut begins = vec![0];
     let mut next = 0;
-    for (&[sender, _, _, hops, _], &count) in plan.streams.iter().zip(&frames) {
+    for (&[sender, _, _, hops, ..], &count) in plan.streams.iter().zip(&frames) {
         if plan.jobs(sender) as usize * hops as usize != count {
             break;
         }

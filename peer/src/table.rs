@@ -3,7 +3,7 @@
 use crate::answer::Answer;
 use crate::charges::charges;
 use crate::check::examine;
-use crate::image::Plan;
+use crate::image::{Frame, Piece, Plan, Window};
 
 /// First tick, kind, row.
 pub type Entry = [u32; 3];
@@ -96,7 +96,7 @@ impl Lane {
 type Stretch = (u32, u32, u32);
 
 fn core_entries(plan: &Plan, charges: &[u32], core: u32) -> Vec<Entry> {
-    let [_, d, _] = plan.cores[core as usize];
+    let [_, d, ..] = plan.cores[core as usize];
     let pieces = core_pieces(plan, core);
     let mut pieces = pieces.iter().peekable();
     let mut lane = Lane::new();
@@ -125,21 +125,21 @@ fn link_entries(plan: &Plan, link: u32) -> Vec<Entry> {
 }
 
 fn core_windows(plan: &Plan, core: u32) -> Vec<Stretch> {
-    let on_core = |(row, &[vcpu, start, length]): (usize, &[u32; 3])| {
+    let on_core = |(row, &[vcpu, start, length, ..]): (usize, &Window)| {
         (plan.core_of_vcpu(vcpu) == core).then_some((start, start + length, row as u32))
     };
     sorted(plan.windows.iter().enumerate().filter_map(on_core))
 }
 
 fn core_pieces(plan: &Plan, core: u32) -> Vec<Stretch> {
-    let on_core = |(row, &[task, _, start, length]): (usize, &[u32; 4])| {
+    let on_core = |(row, &[task, _, start, length, ..]): (usize, &Piece)| {
         (plan.core_of_task(task) == core).then_some((start, start + length, row as u32))
     };
     sorted(plan.pieces.iter().enumerate().filter_map(on_core))
 }
 
 fn link_frames(plan: &Plan, link: u32) -> Vec<Stretch> {
-    let on_link = |(row, &[stream, _, _, carrier, start]): (usize, &[u32; 5])| {
+    let on_link = |(row, &[stream, _, _, carrier, start, ..]): (usize, &Frame)| {
         let end = start + plan.frame_ticks(stream, carrier);
         (carrier == link).then_some((start, end, row as u32))
     };

@@ -8,7 +8,7 @@ use std::collections::{BTreeMap, BTreeSet};
 use std::time::{Duration, Instant};
 
 use peer::generate::{diamond, small_rich, tiny};
-use peer::image::Plan;
+use peer::image::{self, row_of, rows_of, Chain, Plan};
 use peer::mutate::{aim, mutant, mutate};
 use peer::{asked_before, check, naive, Answer, Rng};
 
@@ -93,7 +93,7 @@ struct Asked<'a> {
 
 fn spans(plan: &Plan) -> BTreeMap<(u32, u32), (i64, i64)> {
     let mut spans = BTreeMap::new();
-    for &[task, k, start, length] in &plan.pieces {
+    for &[task, k, start, length, ..] in &plan.pieces {
         let (start, end) = (i64::from(start), i64::from(start + length));
         let span = spans.entry((task, k)).or_insert((start, end));
         *span = (span.0.min(start), span.1.max(end));
@@ -102,7 +102,7 @@ fn spans(plan: &Plan) -> BTreeMap<(u32, u32), (i64, i64)> {
 }
 
 impl Asked<'_> {
-    fn twenty_nine(&self, &[first, last, _]: &[u32; 3]) -> bool {
+    fn twenty_nine(&self, &[first, last, ..]: &Chain) -> bool {
         let tasks = self.plan.tasks.len();
         let most = match self.reading {
             OneMoreTask => tasks,
@@ -127,8 +127,9 @@ impl Asked<'_> {
             RisingRowsOnly => messages.retain(|message| message.0 < message.1),
             ByBufferNumber => {
                 let node = |task: u32| plan.node_of_task(task);
-                for &[number, writer, _] in &plan.buffers {
-                    let one = |row: &&[u32; 3]| row[0] == number && node(row[1]) == node(writer);
+                for &[number, writer, ..] in &plan.buffers {
+                    let one =
+                        |row: &&image::Buffer| row[0] == number && node(row[1]) == node(writer);
                     let readers = plan.buffers.iter().filter(one);
                     messages.extend(readers.map(|row| (writer, row[2], Buffer)));
                 }
@@ -136,7 +137,7 @@ impl Asked<'_> {
             ByVcpu => {
                 let tasks = plan.tasks.iter().zip(0..);
                 for (a, from) in tasks {
-                    let one = |(b, _): &(&[u32; 5], u32)| b[..3] == [a[0], b[1], a[2]];
+                    let one = |(b, _): &(&image::Task, u32)| b[..3] == [a[0], b[1], a[2]];
                     let beside = plan.tasks.iter().zip(0..).filter(one);
                     messages.extend(beside.map(|(_, to)| (from, to, Buffer)));
                 }
@@ -157,7 +158,7 @@ impl Asked<'_> {
         }
     }
 
-    fn thirty(&self, &[first, last, _]: &[u32; 3]) -> bool {
+    fn thirty(&self, &[first, last, ..]: &Chain) -> bool {
         let plan = self.plan;
         let most = match self.reading {
             NoPathAsked => return true,
@@ -203,7 +204,7 @@ impl Asked<'_> {
             .any(|(task, before)| *task == last && before.is_some())
     }
 
-    fn thirty_one(&self, &[first, last, written]: &[u32; 3]) -> bool {
+    fn thirty_one(&self, &[first, last, written, ..]: &Chain) -> bool {
         let plan = self.plan;
         if self.reading == NoLimitAsked {
             return true;
@@ -262,7 +263,7 @@ impl Asked<'_> {
     fn answer(&self) -> Option<Answer> {
         let chains = &self.plan.chains;
         let at = |number: u32, row: usize| Answer::at(number, 10, row as u32);
-        type Question = fn(&Asked<'_>, &[u32; 3]) -> bool;
+        type Question = fn(&Asked<'_>, &Chain) -> bool;
         let asked: [(u32, Question); 3] = [
             (29, |asked, chain| asked.twenty_nine(chain)),
             (30, |asked, chain| asked.thirty(chain)),
@@ -400,8 +401,8 @@ fn two_to_the_64_paths() {
             ([last, first, u32::MAX], 30),
             ([first, last, 1], 31),
         ] {
-            plan.chains = vec![[first, last, u32::MAX]; 31];
-            plan.chains.push(chain);
+            plan.chains = rows_of(&[[first, last, u32::MAX]; 31]);
+            plan.chains.push(row_of(chain));
             let image = plan.encode();
             let begin = Instant::now();
             let answer = check(&image);

@@ -51,8 +51,8 @@ use Reading::*;
 impl Reading {
     /// Whether the window of a row begins where the one of another ends.
     fn adjoins(self, plan: &Plan, row: usize, other: usize) -> bool {
-        let [vcpu, start, _] = plan.windows[row];
-        let [owner, begin, length] = plan.windows[other];
+        let [vcpu, start, ..] = plan.windows[row];
+        let [owner, begin, length, ..] = plan.windows[other];
         let core = |vcpu| plan.core_of_vcpu(vcpu);
         let end = u64::from(begin) + u64::from(length);
         let start = u64::from(start);
@@ -87,7 +87,7 @@ impl Reading {
     }
 
     fn charge(self, plan: &Plan, row: usize, question: u32) -> u64 {
-        let [vcpu, start, _] = plan.windows[row];
+        let [vcpu, start, ..] = plan.windows[row];
         let always_pays = match self {
             AllPay => true,
             AllPayInSeven => question == 7,
@@ -114,18 +114,19 @@ impl Reading {
     /// The first row that question 7 refuses.
     fn seven(self, plan: &Plan) -> Option<usize> {
         (0..plan.windows.len()).find(|row| {
-            let [_, start, length] = plan.windows[*row].map(u64::from);
+            let [_, start, length, ..] = plan.windows[*row].map(u64::from);
             length <= self.charge(plan, *row, 7) || start + length > u64::from(plan.cycle)
         })
     }
 
     /// The first row that question 11 refuses.
     fn eleven(self, plan: &Plan) -> Option<usize> {
-        plan.pieces.iter().position(|&[task, _, start, length]| {
+        plan.pieces.iter().position(|piece| {
+            let [task, _, start, length, ..] = *piece;
             let vcpu = plan.tasks[task as usize][0];
             let (start, end) = (u64::from(start), u64::from(start) + u64::from(length));
             let holds = |row: usize| {
-                let [owner, opens, open] = plan.windows[row];
+                let [owner, opens, open, ..] = plan.windows[row];
                 let (opens, closes) = (u64::from(opens), u64::from(opens) + u64::from(open));
                 let reaches = end <= closes || self == PiecesMaySpan && start < closes;
                 owner == vcpu && reaches && opens <= start && {

@@ -3,8 +3,9 @@
 use peer::generate::{
     busy_core, diamond, full, kept_core, medium, rich, small, small_rich, unit_periods,
 };
+use peer::image::rows_of;
 use peer::mutate::{mutant, mutate};
-use peer::{build, check, naive, questions, step, step_all, Answer, Plan, Rng, State};
+use peer::{build, check, naive, step, step_all, Answer, Histogram, Plan, Rng, State, QUESTIONS};
 
 #[track_caller]
 fn compare(image: &[u8]) -> Answer {
@@ -18,15 +19,14 @@ fn compare(image: &[u8]) -> Answer {
 
 #[test]
 fn mutants_of_all_questions() {
-    let mut refusals = [0; 33];
+    let mut refusals = Histogram::default();
     for case in 0..6_000 {
         let image = mutant(&mut Rng::for_case(10, case));
-        refusals[compare(&image).number as usize] += 1;
+        refusals.count(compare(&image).number);
     }
-    println!("{refusals:?}");
-    let asked = std::iter::once(0).chain(questions());
-    let mut counts = asked.map(|number| refusals[number as usize]);
-    assert!(counts.all(|count| count >= 60), "{refusals:?}");
+    print!("{refusals}");
+    let mut numbers = [0].iter().chain(QUESTIONS);
+    assert!(numbers.all(|number| refusals.of(*number) >= 60));
 }
 
 #[test]
@@ -50,9 +50,9 @@ fn rough(rng: &mut Rng) -> Plan {
     let switch = |rng: &mut Rng| rng.pick(&[0, 0, 0, 1]);
     let few = |most: u32, rng: &mut Rng| 0..rng.within(1..=most);
     let cores = few(3, rng).map(|core| [core / 2, switch(rng), switch(rng)]);
-    let cores: Vec<[u32; 3]> = cores.collect();
+    let cores: Vec<_> = cores.collect();
     let whole = rng.chance(70);
-    let vcpus: Vec<[u32; 1]> = if whole {
+    let vcpus: Vec<_> = if whole {
         (0..cores.len() as u32).map(|core| [core]).collect()
     } else {
         few(4, rng)
@@ -66,9 +66,9 @@ fn rough(rng: &mut Rng) -> Plan {
         let deadline = rng.within(budget.max(period / 2)..=period);
         [vcpu(rng), 7, period, budget, deadline]
     });
-    let tasks: Vec<[u32; 5]> = tasks.collect();
+    let tasks: Vec<_> = tasks.collect();
     let task = |rng: &mut Rng| rng.below(tasks.len()) as u32;
-    let windows: Vec<[u32; 3]> = if whole {
+    let windows: Vec<_> = if whole {
         // One window as long as the cycle for each VCPU.
         (0..vcpus.len() as u32)
             .map(|vcpu| [vcpu, 0, cycle])
@@ -88,15 +88,15 @@ fn rough(rng: &mut Rng) -> Plan {
         let start = k * period + rng.within(0..=deadline - length);
         [task, k, start, length]
     });
-    let pieces = pieces.collect();
+    let pieces: Vec<_> = pieces.collect();
     Plan {
         cycle,
         precision: rng.within(0..=1),
-        pieces,
-        windows,
-        cores,
-        vcpus,
-        tasks,
+        pieces: rows_of(&pieces),
+        windows: rows_of(&windows),
+        cores: rows_of(&cores),
+        vcpus: rows_of(&vcpus),
+        tasks: rows_of(&tasks),
         ..Plan::default()
     }
 }
@@ -112,20 +112,20 @@ fn mostly_in_order(plan: Plan, rng: &mut Rng) -> Plan {
 
 #[test]
 fn rough_plans() {
-    let mut refusals = [0; 33];
+    let mut refusals = Histogram::default();
     for case in 0..30_000 {
         let mut rng = Rng::for_case(12, case);
         let plan = rough(&mut rng);
         let plan = mostly_in_order(plan, &mut rng);
-        refusals[compare(&plan.encode()).number as usize] += 1;
+        refusals.count(compare(&plan.encode()).number);
     }
-    println!("{refusals:?}");
+    print!("{refusals}");
 }
 
 /// Accepted plans whose words are shaken a little, most of them in starts.
 #[test]
 fn shaken_plans() {
-    let mut refusals = [0; 33];
+    let mut refusals = Histogram::default();
     for case in 0..8_000 {
         let mut rng = Rng::for_case(13, case);
         let mut plan = match rng.below(10) {
@@ -169,16 +169,16 @@ fn shaken_plans() {
             }
         }
         let plan = mostly_in_order(plan, &mut rng);
-        refusals[compare(&plan.encode()).number as usize] += 1;
+        refusals.count(compare(&plan.encode()).number);
     }
-    println!("{refusals:?}");
+    print!("{refusals}");
 }
 
 /// Accepted plans with frames anywhere in their periods, on any links, and
 /// with buffers between any tasks.
 #[test]
 fn rough_messages() {
-    let mut refusals = [0; 33];
+    let mut refusals = Histogram::default();
     for case in 0..10_000 {
         let mut rng = Rng::for_case(18, case);
         let mut plan = small_rich(&mut rng);
@@ -192,7 +192,7 @@ fn rough_messages() {
             link[3] = rng.pick(&[704, 704, 703, 352, 10_000]);
         }
         for row in 0..plan.frames.len() {
-            let [stream, k, _, link, _] = plan.frames[row];
+            let [stream, k, _, link, ..] = plan.frames[row];
             let [sender, ..] = plan.streams[stream as usize];
             let period = plan.period(sender);
             if loose || rng.chance(30) {
@@ -215,9 +215,9 @@ fn rough_messages() {
             plan.frames.clear();
         }
         let plan = mostly_in_order(plan, &mut rng);
-        refusals[compare(&plan.encode()).number as usize] += 1;
+        refusals.count(compare(&plan.encode()).number);
     }
-    println!("{refusals:?}");
+    print!("{refusals}");
 }
 
 fn compare_tables(plan: &Plan) {
@@ -276,7 +276,7 @@ fn compare_steps(words: &[u32], states: &[State]) -> u32 {
 
 #[test]
 fn steps_over_rough_words() {
-    let mut answers = [0; 29];
+    let mut answers = Histogram::default();
     for case in 0..200_000 {
         let mut rng = Rng::for_case(17, case);
         let mut words: Vec<u32> = (0..rng.below(14)).map(|_| rng.within(0..=3)).collect();
@@ -296,8 +296,8 @@ fn steps_over_rough_words() {
             row: rng.word(),
         };
         let states: Vec<State> = (0..rng.below(3)).map(|_| state(&mut rng)).collect();
-        answers[compare_steps(&words, &states) as usize] += 1;
+        answers.count(compare_steps(&words, &states));
     }
-    println!("{} {} {}", answers[0], answers[27], answers[28]);
-    assert!(answers[27] > 100 && answers[28] > 100);
+    println!("{answers:?}");
+    assert!(answers.of(27) > 100 && answers.of(28) > 100);
 }

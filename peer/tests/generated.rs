@@ -4,6 +4,7 @@ use peer::generate::{
     accepted, bare, busy_core, cut_window, diamond, full, kept_core, large, longest_lane, medium,
     most_entries, rich, shared_buffer, small, tiny, unit_periods,
 };
+use peer::image::{Chain, Frame, Piece, Window, LONGEST, ROW_BOUNDS};
 use peer::{check, report, Answer, Plan, Rng};
 
 fn all_accepted(count: u64, shape: fn(&mut Rng) -> Plan) {
@@ -66,11 +67,8 @@ fn rows_with_one_start_are_met() {
 #[test]
 fn full_plans_have_every_row() {
     let plan = full(&mut Rng::new(3));
-    assert_eq!(
-        plan.counts(),
-        [32, 64, 256, 1024, 2048, 64, 64, 512, 64, 32]
-    );
-    assert_eq!(plan.encode().len(), 64_604);
+    assert_eq!(plan.counts(), ROW_BOUNDS.map(|(_, most)| most as usize));
+    assert_eq!(plan.encode().len(), LONGEST);
 }
 
 /// Three for each window and piece, two for each frame, and one more for each
@@ -181,8 +179,8 @@ fn windows_pay_or_do_not() {
         }),
         ("the same, another ends with the cycle", |plan| {
             any_window(plan, |plan, row| {
-                let [vcpu, start, _] = plan.windows[row];
-                let ends = |&[owner, begin, length]: &[u32; 3]| {
+                let [vcpu, start, ..] = plan.windows[row];
+                let ends = |&[owner, begin, length, ..]: &Window| {
                     owner == vcpu && begin > 0 && begin + length == plan.cycle
                 };
                 start == 0 && plan.windows.iter().any(ends)
@@ -245,18 +243,18 @@ fn rates_are_many() {
     all_met(tiny, 100, &features);
 }
 
-fn ticks(plan: &Plan, frame: &[u32; 5]) -> u32 {
+fn ticks(plan: &Plan, frame: &Frame) -> u32 {
     plan.frame_ticks(frame[0], frame[3])
 }
 
 /// The bits of a frame in a tick that they do not fill.
-fn bits_over(plan: &Plan, frame: &[u32; 5]) -> u32 {
+fn bits_over(plan: &Plan, frame: &Frame) -> u32 {
     let payload = plan.streams[frame[0] as usize][4];
     8 * (payload + 42) % plan.links[frame[3] as usize][3]
 }
 
 /// Whether something differs between frames of one message.
-fn hops_differ(plan: &Plan, of: fn(&Plan, &[u32; 5]) -> u32) -> bool {
+fn hops_differ(plan: &Plan, of: fn(&Plan, &Frame) -> u32) -> bool {
     plan.frames.iter().any(|a| {
         let mut others = plan.frames.iter().filter(|b| a[..2] == b[..2]);
         others.any(|b| of(plan, a) != of(plan, b))
@@ -271,8 +269,8 @@ fn any_window(plan: &Plan, holds: fn(&Plan, usize) -> bool) -> bool {
 }
 
 fn predecessor(plan: &Plan, row: usize) -> Option<usize> {
-    let [vcpu, start, _] = plan.windows[row];
-    let ends_there = |other: &[u32; 3]| other[0] == vcpu && other[1] + other[2] == start;
+    let [vcpu, start, ..] = plan.windows[row];
+    let ends_there = |other: &Window| other[0] == vcpu && other[1] + other[2] == start;
     plan.windows.iter().position(ends_there)
 }
 
@@ -282,7 +280,7 @@ fn continues(plan: &Plan, row: usize) -> bool {
 
 /// Whether a piece of the window's VCPU starts so many ticks after it does.
 fn piece_starts(plan: &Plan, row: usize, after: u32) -> bool {
-    let [vcpu, start, _] = plan.windows[row];
+    let [vcpu, start, ..] = plan.windows[row];
     let owner = |task: u32| plan.tasks[task as usize][0];
     let mut pieces = plan.pieces.iter();
     pieces.any(|piece| owner(piece[0]) == vcpu && piece[2] == start + after)
@@ -403,7 +401,7 @@ fn messages(plan: &Plan) -> Vec<[u32; 2]> {
     streams.chain(buffers).collect()
 }
 
-fn any_chain(plan: &Plan, holds: fn(&Plan, &[u32; 3]) -> bool) -> bool {
+fn any_chain(plan: &Plan, holds: fn(&Plan, &Chain) -> bool) -> bool {
     plan.chains.iter().any(|chain| holds(plan, chain))
 }
 
@@ -416,7 +414,7 @@ fn is_mixed(plan: &Plan) -> bool {
 
 /// The fewest messages of a path from a chain's first task to its last, if
 /// streams count and if buffers do.
-fn fewest(plan: &Plan, &[first, last, _]: &[u32; 3], streams: bool, buffers: bool) -> Option<u32> {
+fn fewest(plan: &Plan, &[first, last, ..]: &Chain, streams: bool, buffers: bool) -> Option<u32> {
     let mut counted = plan.clone();
     if !streams {
         counted.streams.clear();
@@ -438,7 +436,7 @@ fn fewest(plan: &Plan, &[first, last, _]: &[u32; 3], streams: bool, buffers: boo
 }
 
 /// From the first task's start to the last one's end, job by job.
-fn taken(plan: &Plan, &[first, last, _]: &[u32; 3]) -> Vec<u32> {
+fn taken(plan: &Plan, &[first, last, ..]: &Chain) -> Vec<u32> {
     let of_job = |task: u32, k: u32| plan.pieces.iter().filter(move |row| row[..2] == [task, k]);
     let span = |k: u32| {
         let start = of_job(first, k).map(|row| row[2]).min().unwrap_or(0);
@@ -456,7 +454,7 @@ fn has_hops(plan: &Plan, hops: u32) -> bool {
 }
 
 fn has_split_job(plan: &Plan) -> bool {
-    let one_job = |a: &[u32; 4], b: &[u32; 4]| a[..2] == b[..2];
+    let one_job = |a: &Piece, b: &Piece| a[..2] == b[..2];
     let pieces = plan.pieces.iter().enumerate();
     let mut before = pieces.map(|(row, piece)| (&plan.pieces[..row], piece));
     before.any(|(before, a)| before.iter().any(|b| one_job(a, b)))

@@ -7,7 +7,7 @@ mod ways;
 use peer::boundary::{Boundary, Peer, STATE};
 use peer::harness::{run, Settings};
 use peer::naive::Naive;
-use peer::questions;
+use peer::QUESTIONS;
 
 const SMALL: Settings = Settings {
     seed: 5,
@@ -186,7 +186,7 @@ fn each_fault_is_found() {
         cases: 3_000,
         ..SMALL
     };
-    let never_asked = questions().map(|number| NeverAsks(u64::from(number)));
+    let never_asked = QUESTIONS.iter().map(|number| NeverAsks(u64::from(*number)));
     for fault in FAULTS.into_iter().chain(never_asked) {
         let found = run(&settings, &Peer, &Faulty(fault));
         assert!(found.is_err(), "{fault:?} goes unnoticed");

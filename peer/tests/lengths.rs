@@ -4,11 +4,9 @@
 #[macro_use]
 mod ways;
 
-use peer::image::Plan;
+use peer::image::{Frame, Piece, Plan};
 use peer::mutate::mutant;
 use peer::{asked_before, check, Answer, Rng};
-
-type Frame = [u32; 5];
 
 ways! {
     /// Ways to read it.
@@ -49,7 +47,7 @@ impl Asked<'_> {
     }
 
     /// The rate that this reading takes for a frame.
-    fn rate(&self, &[stream, k, hop, link, _]: &Frame) -> u64 {
+    fn rate(&self, &[stream, k, hop, link, ..]: &Frame) -> u64 {
         let hops = self.plan.streams[stream as usize][3];
         let rate = |link: u32| u64::from(self.plan.links[link as usize][3]);
         let of_hop = |hop: u32| self.frame(stream, k, hop).map(|frame| rate(frame[3]));
@@ -95,8 +93,8 @@ impl Asked<'_> {
     }
 
     fn fifteen(&self, frame: &Frame) -> bool {
-        let &[stream, k, hop, _, start] = frame;
-        let [sender, _, _, hops, _] = self.plan.streams[stream as usize];
+        let &[stream, k, hop, _, start, ..] = frame;
+        let [sender, _, _, hops, ..] = self.plan.streams[stream as usize];
         let period = u64::from(self.plan.period(sender));
         let from = u64::from(k) * period;
         k < self.plan.jobs(sender)
@@ -106,7 +104,7 @@ impl Asked<'_> {
     }
 
     fn eighteen(&self, frame: &Frame) -> bool {
-        let &[stream, k, hop, _, start] = frame;
+        let &[stream, k, hop, _, start, ..] = frame;
         let before = self.frame(stream, k, hop.wrapping_sub(1));
         before.is_none_or(|before| self.arrival(before) <= u64::from(start))
     }
@@ -123,9 +121,9 @@ impl Asked<'_> {
 
     /// The half of question 20 that asks for a length.
     fn twenty(&self, stream: usize) -> bool {
-        let [sender, receiver, _, hops, _] = self.plan.streams[stream];
+        let [sender, receiver, _, hops, ..] = self.plan.streams[stream];
         (0..self.plan.jobs(sender)).all(|k| {
-            let of_job = |piece: &&[u32; 4]| piece[..2] == [receiver, k];
+            let of_job = |piece: &&Piece| piece[..2] == [receiver, k];
             let pieces = self.plan.pieces.iter().filter(of_job);
             let start = pieces.map(|piece| u64::from(piece[2])).min();
             let last = self.frame(stream as u32, k, hops - 1);

@@ -9,8 +9,9 @@ use std::collections::BTreeMap;
 
 use cases::{case_a, case_b, case_chain, two_hops, two_rows};
 use peer::generate::{full, rich, small_rich, tiny};
+use peer::image::{row_of, rows_of, Frame, Piece, Window};
 use peer::mutate::{aim, mutant};
-use peer::{asked_before, build, check, naive, questions, report, Answer, Plan, Rng};
+use peer::{asked_before, build, check, naive, report, Answer, Plan, Rng, QUESTIONS};
 
 #[track_caller]
 fn expect(plan: &Plan, number: u32, table: u32, row: u32) {
@@ -31,11 +32,11 @@ fn expect(plan: &Plan, number: u32, table: u32, row: u32) {
 fn bare() -> Plan {
     Plan {
         cycle: 100,
-        cores: vec![[0, 0, 0], [1, 0, 0], [2, 0, 0], [3, 0, 0]],
-        vcpus: vec![[0], [1], [2], [3]],
-        tasks: (0..4).map(|vcpu| [vcpu, 15, 100, 1, 100]).collect(),
-        links: vec![[0, 1, 0, 352]; 4],
-        streams: vec![[0, 1, 0, 1, 46]; 4],
+        cores: rows_of(&[[0, 0, 0], [1, 0, 0], [2, 0, 0], [3, 0, 0]]),
+        vcpus: rows_of(&[[0], [1], [2], [3]]),
+        tasks: (0..4).map(|vcpu| row_of([vcpu, 15, 100, 1, 100])).collect(),
+        links: rows_of(&[[0, 1, 0, 352]; 4]),
+        streams: rows_of(&[[0, 1, 0, 1, 46]; 4]),
         ..Plan::default()
     }
 }
@@ -44,21 +45,21 @@ fn bare() -> Plan {
 #[track_caller]
 fn windows(rows: &[[u32; 3]], named: Option<u32>) {
     let mut plan = bare();
-    plan.windows = rows.to_vec();
+    plan.windows = rows_of(rows);
     asked(&plan, 4, named);
 }
 
 #[track_caller]
 fn pieces(rows: &[[u32; 4]], named: Option<u32>) {
     let mut plan = bare();
-    plan.pieces = rows.to_vec();
+    plan.pieces = rows_of(rows);
     asked(&plan, 5, named);
 }
 
 #[track_caller]
 fn frames(rows: &[[u32; 5]], named: Option<u32>) {
     let mut plan = bare();
-    plan.frames = rows.to_vec();
+    plan.frames = rows_of(rows);
     asked(&plan, 8, named);
 }
 
@@ -148,13 +149,13 @@ fn equal_rows_stand_side_by_side() {
     windows(&[[1, 5, 2], [1, 5, 3], [1, 5, 2]], Some(2));
     // In accepted plans there are none: 8, 12 and 16 refuse them.
     let mut plan = case_a();
-    plan.windows = vec![[0, 0, 10]; 2];
+    plan.windows = rows_of(&[[0, 0, 10]; 2]);
     expect(&plan, 8, 4, 1);
     let mut plan = case_a();
-    plan.pieces = vec![[0, 0, 2, 4]; 2];
+    plan.pieces = rows_of(&[[0, 0, 2, 4]; 2]);
     expect(&plan, 12, 5, 1);
     let mut plan = case_b();
-    plan.frames = vec![[0, 0, 0, 0, 6]; 2];
+    plan.frames = rows_of(&[[0, 0, 0, 0, 6]; 2]);
     expect(&plan, 16, 7, 0);
 }
 
@@ -165,7 +166,7 @@ fn the_first_row_is_named() {
     windows(&[[0, 5, 1], [0, 3, 1], [0, 4, 1], [0, 2, 1]], Some(1));
     windows(&[[0, 1, 1], [0, 9, 1], [0, 8, 1], [0, 8, 2]], Some(2));
     pieces(&[[0, 0, 7, 1], [0, 0, 8, 1], [0, 0, 0, 1]], Some(2));
-    let mut rows: Vec<[u32; 5]> = (0..512).map(|start| [0, 0, 0, 0, start]).collect();
+    let mut rows: Vec<_> = (0..512).map(|start| [0, 0, 0, 0, start]).collect();
     frames(&rows, None);
     rows.swap(510, 511);
     frames(&rows, Some(511));
@@ -184,7 +185,7 @@ fn the_lowest_table_is_named() {
     plan.windows.swap(0, 1);
     expect(&plan, 32, 4, 1);
     // Though its row is higher.
-    plan.windows = vec![[0, 0, 30], [1, 0, 30], [1, 30, 30], [0, 30, 30]];
+    plan.windows = rows_of(&[[0, 0, 30], [1, 0, 30], [1, 30, 30], [0, 30, 30]]);
     expect(&plan, 32, 4, 3);
 }
 
@@ -192,7 +193,7 @@ fn the_lowest_table_is_named() {
 #[test]
 fn no_other_table_is_asked() {
     let plan = Plan {
-        cores: vec![[9, 1, 2], [0, 1, 2]],
+        cores: rows_of(&[[9, 1, 2], [0, 1, 2]]),
         ..case_b()
     };
     expect(&plan, 17, 7, 0);
@@ -200,7 +201,7 @@ fn no_other_table_is_asked() {
     plan.buffers.swap(0, 1);
     expect(&plan, 0, 0, 0);
     let mut plan = case_chain();
-    plan.chains = vec![[1, 2, 9], [0, 2, 17]];
+    plan.chains = rows_of(&[[1, 2, 9], [0, 2, 17]]);
     expect(&plan, 0, 0, 0);
 }
 
@@ -216,23 +217,22 @@ fn asked_after_5_and_before_6() {
         plan
     };
     expect(&with(|plan| plan.cycle = 0), 4, 0, 0);
-    expect(&with(|plan| plan.vcpus[1] = [2]), 5, 2, 1);
+    expect(&with(|plan| plan.vcpus[1] = row_of([2])), 5, 2, 1);
     expect(&with(|plan| plan.windows[0][0] = 2), 5, 4, 0);
     expect(&with(|plan| plan.frames[0][0] = 1), 5, 8, 0);
-    expect(&with(|plan| plan.buffers = vec![[0, 0, 2]]), 5, 9, 0);
+    expect(&with(|plan| plan.buffers = rows_of(&[[0, 0, 2]])), 5, 9, 0);
     expect(&with(|plan| plan.cores[0][0] = 16), 32, 4, 1);
     expect(&with(|plan| plan.tasks[0][2] = 0), 32, 4, 1);
     expect(&with(|plan| plan.windows[0][2] = 0), 32, 4, 1);
     expect(&with(|plan| plan.links[0][3] = 0), 32, 4, 1);
-    expect(&with(|plan| plan.chains = vec![[9, 9, 9]]), 32, 4, 1);
+    expect(&with(|plan| plan.chains = rows_of(&[[9, 9, 9]])), 32, 4, 1);
     let mut plan = case_b();
     plan.pieces.swap(0, 1);
     plan.cores[0][0] = 16;
     expect(&plan, 32, 5, 1);
     plan.pieces.swap(0, 1);
     expect(&plan, 6, 1, 0);
-    let order: Vec<u32> = questions().collect();
-    assert_eq!(order[3..7], [4, 5, 32, 6]);
+    assert_eq!(QUESTIONS[3..7], [4, 5, 32, 6]);
     assert!(asked_before(5, 32) && asked_before(32, 6) && asked_before(32, 31));
     assert!(!asked_before(6, 32) && !asked_before(32, 32) && !asked_before(0, 32));
 }
@@ -548,9 +548,8 @@ fn other_aims_keep_the_order() {
     for case in 0..4_000 {
         let mut rng = Rng::for_case(35, case);
         let mut plan = small_rich(&mut rng);
-        let others: Vec<u32> = questions()
-            .filter(|number| ![1, 2, 3, 32].contains(number))
-            .collect();
+        let mut others = QUESTIONS[3..].to_vec();
+        others.retain(|number| *number != 32);
         let question = rng.pick(&others);
         if aim(question, &mut plan, &mut rng).is_some() {
             all += 1;
@@ -569,19 +568,19 @@ fn other_aims_keep_the_order() {
 fn intervals(plan: &Plan, question: u32) -> Vec<[u32; 3]> {
     match question {
         8 => {
-            let window = |&[vcpu, start, length]: &[u32; 3]| {
+            let window = |&[vcpu, start, length, ..]: &Window| {
                 [plan.core_of_vcpu(vcpu), start, start + length]
             };
             plan.windows.iter().map(window).collect()
         }
         12 => {
-            let piece = |&[task, _, start, length]: &[u32; 4]| {
+            let piece = |&[task, _, start, length, ..]: &Piece| {
                 [plan.core_of_task(task), start, start + length]
             };
             plan.pieces.iter().map(piece).collect()
         }
         _ => {
-            let frame = |&[stream, _, _, link, start]: &[u32; 5]| {
+            let frame = |&[stream, _, _, link, start, ..]: &Frame| {
                 [link, start, start + plan.frame_ticks(stream, link)]
             };
             plan.frames.iter().map(frame).collect()

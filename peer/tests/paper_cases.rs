@@ -3,7 +3,10 @@
 mod cases;
 
 use cases::{case_a, case_b, case_chain, two_hops, two_rows};
-use peer::image::{LONGEST, TRAILER};
+use peer::image::{
+    point_back, row_of, rows_of, set_word, width, word_at, Trailer, LINK, LONGEST, TABLES, TRAILER,
+    WORD,
+};
 use peer::{build, check, naive, report, start, step, step_all, Answer, Plan, State};
 
 #[track_caller]
@@ -25,8 +28,6 @@ fn changed(mut plan: Plan, change: impl Fn(&mut Plan), number: u32, table: u32, 
 #[test]
 fn a_prints_whole() {
     let image = case_a().encode();
-    assert_eq!(image.len(), 156);
-    assert_eq!(image[152..], [64, 0, 0, 0]);
     expect(&image, 0, 0, 0);
     let text = "0 0 0\n0 0 1 0\n0 2 3 0\n0 3 4 0\n0 6 2 0\n";
     assert_eq!(report(&image), text);
@@ -56,7 +57,8 @@ fn a_changed() {
 #[test]
 fn a_as_bytes() {
     let mut image = case_a().encode();
-    image[152] = 63;
+    let last_word = image.len() - WORD;
+    image[last_word] -= 1;
     expect(&image, 2, 0, 0);
     expect(&[], 1, 0, 0);
 }
@@ -226,10 +228,10 @@ fn a_whole_cycle_of_a() {
 fn a_million_jobs_without_a_piece() {
     let mut plan = case_a();
     plan.cycle = 1_000_000;
-    plan.cores[0] = [0, 0, 0];
-    plan.pieces = vec![[255, 999_999, 999_999, 1]];
-    plan.windows = vec![[0, 0, 1_000_000]];
-    plan.tasks = vec![[0, 1, 1, 1, 1]; 256];
+    plan.cores[0] = row_of([0, 0, 0]);
+    plan.pieces = rows_of(&[[255, 999_999, 999_999, 1]]);
+    plan.windows = rows_of(&[[0, 0, 1_000_000]]);
+    plan.tasks = rows_of(&[[0, 1, 1, 1, 1]; 256]);
     for _ in 0..1_000 {
         assert_eq!(check(&plan.encode()), Answer::at(13, 3, 0));
     }
@@ -239,16 +241,16 @@ fn a_million_jobs_without_a_piece() {
 #[test]
 fn no_piece_spans_adjoining_windows() {
     let mut plan = case_a();
-    plan.windows = vec![[0, 0, 5], [0, 5, 5]];
+    plan.windows = rows_of(&[[0, 0, 5], [0, 5, 5]]);
     expect(&plan.encode(), 11, 5, 0);
 }
 
 /// Case A with a second VCPU on the core and these windows; D is T.
 fn a_with(windows: &[[u32; 3]], start: u32) -> Plan {
     let mut plan = case_a();
-    plan.vcpus.push([0]);
+    plan.vcpus.push(row_of([0]));
     plan.tasks[0][4] = 10;
-    plan.windows = windows.to_vec();
+    plan.windows = rows_of(windows);
     plan.pieces[0][2] = start;
     plan
 }
@@ -379,57 +381,63 @@ fn each_hop_has_its_own_rate() {
     assert_eq!(lines[lines.len() - 1], "3 19 0 0");
 }
 
-/// The paper's sizes, which the code reckons from widths and counts.
+/// The paper's sizes, which all code reckons from widths and counts. They are
+/// written down here and in no other test.
 #[test]
 fn sizes_are_the_papers() {
     assert_eq!((TRAILER, LONGEST), (92, 64_604));
+    let image = case_a().encode();
+    assert_eq!(image.len(), 156);
+    assert_eq!(image[152..], [64, 0, 0, 0]);
 }
 
 /// An image of case B with link rows of three words.
 #[test]
 fn old_link_rows_are_refused() {
-    let plan = case_b();
-    let mut image = plan.encode();
-    let begin = 4 * (2 * 3 + 2 + 2 * 5 + 2 * 3 + 2 * 4);
-    image.drain(begin + 12..begin + 16);
-    let length = image.len();
-    for table in 7..=10 {
-        let at = length - 92 + 8 * table;
-        let offset = u32::from_le_bytes([image[at], image[at + 1], 0, 0]);
-        image[at..at + 4].copy_from_slice(&(offset - 4).to_le_bytes());
+    let mut image = case_b().encode();
+    let (begin, rows) = Trailer::read(&image).tables[LINK as usize - 1];
+    assert_eq!(rows, 1);
+    let gone = (width(LINK) - 3) * WORD;
+    let rate = begin as usize + 3 * WORD;
+    image.drain(rate..rate + gone);
+    for table in LINK as usize..TABLES {
+        let at = image.len() - TRAILER + WORD * (2 + 2 * table);
+        let offset = word_at(&image, at) - gone as u32;
+        set_word(&mut image, at, offset);
     }
-    image[length - 4..].copy_from_slice(&(length as u32 - 92).to_le_bytes());
+    point_back(&mut image);
     expect(&image, 3, 0, 0);
 }
 
 /// Request 3: chains over several messages.
 #[test]
 fn lengths_are_bounded() {
-    expect(&[0; 84], 1, 0, 0);
-    expect(&[0; 91], 1, 0, 0);
-    expect(&[0; 92], 3, 0, 0);
-    for (length, number) in [(64_604, 3), (64_605, 1)] {
+    expect(&[0; TRAILER - 2 * WORD], 1, 0, 0);
+    expect(&[0; TRAILER - 1], 1, 0, 0);
+    expect(&[0; TRAILER], 3, 0, 0);
+    for (length, number) in [(LONGEST, 3), (LONGEST + 1, 1)] {
         let mut image = vec![0; length];
-        image[length - 4..].copy_from_slice(&(length as u32 - 92).to_le_bytes());
+        point_back(&mut image);
         expect(&image, number, 0, 0);
     }
 }
 
-/// Case A as it was: nine tables, 148 bytes, last word 64.
+/// Case A as it was, with nine tables: the last word says where their trailer
+/// begins.
 #[test]
 fn old_images_are_refused() {
     let mut image = case_a().encode();
-    image.drain(144..152);
-    assert_eq!((image.len(), image[144]), (148, 64));
+    let tenth = image.len() - 3 * WORD;
+    image.drain(tenth..tenth + 2 * WORD);
     expect(&image, 2, 0, 0);
-    image[144] = 148 - 92;
+    point_back(&mut image);
     expect(&image, 3, 0, 0);
 }
 
 #[track_caller]
 fn expect_chains(chains: &[[u32; 3]], number: u32, row: u32) {
     let mut plan = case_chain();
-    plan.chains = chains.to_vec();
+    plan.chains = rows_of(chains);
     let table = if number == 0 { 0 } else { 10 };
     expect(&plan.encode(), number, table, row);
 }
@@ -474,26 +482,26 @@ fn chains_are_asked_question_by_question() {
 #[test]
 fn chains_are_asked_last() {
     let mut plan = case_chain();
-    plan.chains = vec![[u32::MAX; 3]];
+    plan.chains = rows_of(&[[u32::MAX; 3]]);
     expect(&plan.encode(), 29, 10, 0);
     let broken = plan.clone();
     changed(broken.clone(), |plan| plan.buffers[0][0] = 64, 6, 9, 0);
     changed(broken.clone(), |plan| plan.pieces[2][3] = 5, 13, 3, 2);
     changed(broken, |plan| plan.pieces[2][2] = 15, 29, 10, 0);
     let mut plan = two_rows();
-    plan.chains = vec![[0, 3, 1]];
+    plan.chains = rows_of(&[[0, 3, 1]]);
     changed(plan, |plan| plan.pieces[2][2] = 5, 24, 9, 1);
     let mut plan = case_a();
     plan.tasks.clear();
     plan.pieces.clear();
-    plan.chains = vec![[0, 1, 0]];
+    plan.chains = rows_of(&[[0, 1, 0]]);
     expect(&plan.encode(), 29, 10, 0);
 }
 
 #[test]
 fn chains_are_at_most_32() {
     let mut plan = case_chain();
-    plan.chains = vec![[0, 2, 17]; 33];
+    plan.chains = rows_of(&[[0, 2, 17]; 33]);
     expect(&plan.encode(), 3, 0, 0);
 }
 
@@ -501,7 +509,7 @@ fn chains_are_at_most_32() {
 #[test]
 fn chains_without_a_limit_have_their_period() {
     let mut plan = two_rows();
-    plan.chains = vec![[0, 1, 0]];
+    plan.chains = rows_of(&[[0, 1, 0]]);
     changed(plan.clone(), |plan| plan.precision = 4, 0, 0, 0);
     changed(plan, |plan| plan.precision = 5, 31, 10, 0);
 }
@@ -511,14 +519,15 @@ fn chains_without_a_limit_have_their_period() {
 fn chains_are_asked_of_every_job() {
     let mut plan = two_rows();
     plan.cycle = 20;
-    plan.windows = vec![[0, 0, 20], [1, 0, 20]];
+    plan.windows = rows_of(&[[0, 0, 20], [1, 0, 20]]);
     plan.buffers.truncate(1);
-    for [task, _, start, length] in plan.pieces.clone() {
-        plan.pieces.push([task, 1, start + 10, length]);
+    for mut piece in plan.pieces.clone() {
+        (piece[1], piece[2]) = (1, piece[2] + 10);
+        plan.pieces.push(piece);
     }
     plan.pieces[5][2] += 1;
-    plan.chains = vec![[0, 1, 7]];
+    plan.chains = rows_of(&[[0, 1, 7]]);
     expect(&plan.encode(), 0, 0, 0);
-    plan.chains = vec![[0, 1, 6]];
+    plan.chains = rows_of(&[[0, 1, 6]]);
     expect(&plan.encode(), 31, 10, 0);
 }

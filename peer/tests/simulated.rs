@@ -5,6 +5,7 @@ mod cases;
 use cases::{case_a, case_b, case_chain, two_rows};
 use peer::boundary::{read_state, read_words, write_state, Boundary, Peer, STATE};
 use peer::generate::{shared_buffer, tiny};
+use peer::image::{row_of, rows_of};
 use peer::naive::Naive;
 use peer::simulate::{
     all_lanes, choices, examine, mixed, simulate, Call, Claim, Fact, Report, Run, Settings, Tables,
@@ -291,11 +292,14 @@ fn each_claim_fails_alone() {
     let promises: [(Promise, &[Claim]); 13] = [
         (|_| (), &[]),
         (|plan| plan.tasks[0][3] -= 1, &[Claim::Budget]),
-        (|plan| plan.vcpus[1] = [0], &[Claim::Core]),
+        (|plan| plan.vcpus[1] = row_of([0]), &[Claim::Core]),
         (|plan| plan.tasks[1][4] = 13, &[Claim::Due]),
         (|plan| plan.tasks[1][4] = 14, &[]),
-        (|plan| plan.windows[0] = [0, 2, 18], &[Claim::Window]),
-        (|plan| plan.windows[0] = [0, 1, 5], &[]),
+        (
+            |plan| plan.windows[0] = row_of([0, 2, 18]),
+            &[Claim::Window],
+        ),
+        (|plan| plan.windows[0] = row_of([0, 1, 5]), &[]),
         (|plan| plan.links[0][2] += 1, &[Claim::Arrived]),
         (|plan| plan.streams[0][4] += 1, &[Claim::Arrived]),
         (|plan| plan.links[0][3] -= 1, &[Claim::Arrived]),
@@ -323,7 +327,7 @@ fn a_chain_fails_alone() {
     ];
     for (chain, claims) in promises {
         let mut promised = case_chain();
-        promised.chains = vec![chain];
+        promised.chains = rows_of(&[chain]);
         assert_eq!(broken_claims(&case_chain(), &promised), claims, "{chain:?}");
     }
     let tables = Tables::built(&case_chain(), &Peer).expect("the plan is accepted");
@@ -341,7 +345,7 @@ fn work_before_the_release_is_noticed() {
     let mut plan = case_a();
     plan.cycle = 20;
     plan.windows[0][2] = 20;
-    plan.pieces.push([0, 1, 12, 4]);
+    plan.pieces.push(row_of([0, 1, 12, 4]));
     let mut promised = plan.clone();
     promised.pieces[0][1] = 1;
     promised.tasks[0][4] = 10;
@@ -362,9 +366,10 @@ fn a_hold_fails_alone() {
         };
         promised
             .buffers
-            .sort_by_key(|&[_, writer, _]| start(writer).map(|piece| piece[2]));
+            .sort_by_key(|&[_, writer, ..]| start(writer).map(|piece| piece[2]));
         let [first, second] = [promised.buffers[0], promised.buffers[1]];
-        promised.buffers.push([first[0], first[1], second[2]]);
+        let joined = [first[0], first[1], second[2]];
+        promised.buffers.push(row_of(joined));
         assert_eq!(broken_claims(&plan, &plan), []);
         assert_eq!(broken_claims(&plan, &promised), [Claim::Hold]);
     }

@@ -4,6 +4,7 @@ mod cases;
 
 use cases::{case_b, case_chain, two_hops, two_rows};
 use peer::generate::{kept_core, shared_buffer, tiny};
+use peer::image::{row_of, rows_of, Piece, Window};
 use peer::simulate::{
     choices, edges, only_one_clock, survey, unchecked, Claim, Clocks, Dial, Edge, Noticed, Report,
     Settings, QUESTIONS,
@@ -102,7 +103,7 @@ fn a_chain_with_each_choice_of_clocks() {
         ([1, 2, 7], 31, all.to_vec()),
     ] {
         let mut plan = case_chain();
-        plan.chains = vec![chain];
+        plan.chains = rows_of(&[chain]);
         assert_eq!(check(&plan.encode()).number, number);
         let found: Vec<[u32; 2]> = all
             .into_iter()
@@ -146,7 +147,7 @@ fn violations_show_at_once() {
         let Edge { kept, broken, .. } = edge;
         let mut pieces = broken.pieces.iter();
         let moved = pieces.find(|piece| !kept.pieces.contains(piece));
-        let [task, k, start, length] = *moved.expect("a piece has moved");
+        let [task, k, start, length, ..] = *moved.expect("a piece has moved");
         let writes = broken.buffers.iter().any(|buffer| buffer[1] == task);
         // A write begins a tick too soon, or its neighbour does when a read
         // ends a tick late: either way one tick before a read is over.
@@ -200,15 +201,15 @@ fn questions_that_no_run_shows() {
         (17, case_b(), |plan| plan.links[0][1] = 2),
         (22, two_rows(), |plan| {
             plan.cores[1][0] = 4;
-            plan.buffers = vec![[7, 0, 3]];
+            plan.buffers = rows_of(&[[7, 0, 3]]);
         }),
         (23, two_rows(), |plan| {
             plan.pieces[2][2] = 5;
-            plan.buffers = vec![[7, 1, 2]];
+            plan.buffers = rows_of(&[[7, 1, 2]]);
         }),
-        (29, case_chain(), |plan| plan.chains[0] = [0, 0, 17]),
-        (29, case_chain(), |plan| plan.chains[0] = [0, 3, 17]),
-        (30, case_chain(), |plan| plan.chains[0] = [2, 0, 17]),
+        (29, case_chain(), |plan| plan.chains[0] = row_of([0, 0, 17])),
+        (29, case_chain(), |plan| plan.chains[0] = row_of([0, 3, 17])),
+        (30, case_chain(), |plan| plan.chains[0] = row_of([2, 0, 17])),
         (32, case_chain(), |plan| plan.windows.reverse()),
         (32, case_chain(), |plan| plan.pieces.reverse()),
         (32, two_hops([704, 88], 11), |plan| plan.frames.reverse()),
@@ -251,18 +252,17 @@ fn misread_precision_on_the_last_hop() {
 
 /// A window of the piece's VCPU cut in two in the midst of the piece's work.
 fn cut_window(plan: &Plan, piece: usize) -> Option<Plan> {
-    let [task, _, start, length] = plan.pieces[piece];
+    let [task, _, start, length, ..] = plan.pieces[piece];
     let vcpu = plan.tasks[task as usize][0];
     let cut = start + plan.task_switch(task) + 1;
-    let holds = |window: &[u32; 3]| {
-        window[0] == vcpu && (window[1]..window[1] + window[2]).contains(&start)
-    };
+    let holds =
+        |window: &Window| window[0] == vcpu && (window[1]..window[1] + window[2]).contains(&start);
     let window = plan.windows.iter().position(holds)?;
-    let [_, opens, open] = plan.windows[window];
+    let [_, opens, open, ..] = plan.windows[window];
     let mut plan = plan.clone();
-    plan.windows[window] = [vcpu, opens, cut - opens];
+    plan.windows[window] = row_of([vcpu, opens, cut - opens]);
     plan.windows
-        .push([vcpu, cut, (opens + open).checked_sub(cut)?]);
+        .push(row_of([vcpu, cut, (opens + open).checked_sub(cut)?]));
     plan.put_in_order();
     (cut < start + length && check(&plan.encode()).number == 11).then_some(plan)
 }
@@ -299,7 +299,7 @@ fn work_in_a_switch_is_noticed() {
             };
             assert!(found(&plan, 0).violations.is_empty());
             let mut other = plan.clone();
-            other.vcpus.push([0]);
+            other.vcpus.push(row_of([0]));
             other.windows[before][0] = plan.vcpus.len() as u32;
             by_vcpu += noticed_if_eleven(&other);
             let mut gap = plan.clone();
@@ -313,13 +313,13 @@ fn work_in_a_switch_is_noticed() {
 /// The window without pieces that ends where a window of its VCPU begins of
 /// which the first v ticks are worked in.
 fn idle_before(plan: &Plan, window: usize) -> Option<usize> {
-    let [vcpu, start, _] = plan.windows[window];
-    let [_, d, v] = plan.cores[0];
+    let [vcpu, start, ..] = plan.windows[window];
+    let [_, d, v, ..] = plan.cores[0];
     let starts_in = |from: u32, until: u32| {
         let mut pieces = plan.pieces.iter();
         pieces.any(|piece| (from..until).contains(&piece[2]))
     };
-    let ends_there = |other: &[u32; 3]| other[0] == vcpu && other[1] + other[2] == start;
+    let ends_there = |other: &Window| other[0] == vcpu && other[1] + other[2] == start;
     let before = plan.windows.iter().position(ends_there)?;
     let is_idle = !starts_in(plan.windows[before][1], start);
     (is_idle && starts_in(start, (start + v).saturating_sub(d))).then_some(before)
@@ -346,7 +346,7 @@ fn hidden_work(plan: &Plan) -> Option<usize> {
         one_core && ticks(low).any(|tick| ticks(high).contains(&tick))
     });
     let (low, high) = clashes.next()?;
-    let [task, k, start, _] = plan.pieces[high];
+    let [task, k, start, ..] = plan.pieces[high];
     let work = start + plan.task_switch(task);
     let hidden = ticks(high).filter(|tick| *tick >= work && ticks(low).contains(tick));
     (plan.pieces[low][1] != k && clashes.next().is_none()).then(|| hidden.count())
@@ -380,8 +380,8 @@ fn misread_holds() {
     let edges = edges_of(24, 60, shared_buffer);
     for edge in &edges {
         let plan = &edge.broken;
-        let writes = |piece: &&[u32; 4]| plan.buffers.iter().any(|row| row[1] == piece[0]);
-        let mut writes: Vec<&[u32; 4]> = plan.pieces.iter().filter(writes).collect();
+        let writes = |piece: &&Piece| plan.buffers.iter().any(|row| row[1] == piece[0]);
+        let mut writes: Vec<&Piece> = plan.pieces.iter().filter(writes).collect();
         writes.sort_by_key(|piece| piece[2]);
         assert!(writes
             .windows(2)

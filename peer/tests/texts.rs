@@ -8,8 +8,8 @@ use std::path::PathBuf;
 use std::process::{Command, Output};
 
 use peer::image::LONGEST;
-use peer::report;
 use peer::texts::{image, run, Met, Process, Settings};
+use peer::{report, QUESTIONS};
 
 const ALL: Settings = Settings {
     seed: 1,
@@ -37,7 +37,7 @@ fn too_few_images_are_noticed() {
         met.missing()
     };
     let of_none = missing(0);
-    assert_eq!(of_none.len(), 28 + 4 + 4 + 6 + 3);
+    assert_eq!(of_none.len(), QUESTIONS.len() + 4 + 4 + 6 + 3);
     for what in [
         "a refusal by question 1",
         "a refusal by question 32",
@@ -291,11 +291,12 @@ fn too_few_images_end_with_a_failure() {
     assert!(told.contains(lack), "{told}");
 }
 
-/// On raw inputs, which every tenth image is: all their lengths are here.
+/// A byte more than the longest image has is enough. On raw inputs, which
+/// every tenth image is: all their lengths are here.
 #[test]
 fn a_program_may_stop_reading() {
-    let path = script("reads-65536-bytes", "head -c 65536 | \"$check\"");
-    let process = Process(path.into());
+    let lines = format!("head -c {} | \"$check\"", LONGEST + 1);
+    let process = Process(script("stops-reading", &lines).into());
     for first_image in (0..1_400).step_by(10) {
         let one = Settings {
             first_image,

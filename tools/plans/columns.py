@@ -29,6 +29,10 @@ class Number:
         self.fields = (field or key,)
         self.default = default
 
+    def unsaid(self):
+        """The words where nobody says them."""
+        return (word(self.default or "0"),)
+
     def read(self, text, names):
         return (word(text),)
 
@@ -91,6 +95,9 @@ class Span:
 
     def __init__(self, key):
         self.key = key
+
+    def unsaid(self):
+        return (0, 0)
 
     def read(self, text, names):
         if "+" in text:

@@ -21,6 +21,11 @@ class Table:
         self.row_words = len(fields)
         self.row_bytes = WORD_BYTES * self.row_words
 
+    def row(self, **words):
+        """A row by the names of its words; a word that is left out is its column's default, else 0."""
+        unsaid = [word for column in self.columns for word in column.unsaid()]
+        return self.record(*unsaid)._replace(**words)
+
 
 TABLES = (
     Table("core", 1, 32, Number("node"), Number("d"), Number("v")),

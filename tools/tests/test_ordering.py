@@ -4,18 +4,19 @@ import unittest
 
 from support import CASE_A, EXAMPLES, SHAPES, generated
 
-from plans.answers import Answer, parse, reason
+from plans.answers import ORDER, Answer, parse, reason
 from plans.files import load
 from plans.image import decode, encode
 from plans.listing import listing
 from plans.model import Plan
 from plans.ordering import below, fall, in_order
+from plans.questions import QUESTIONS
 from plans.reading import read_text
 from plans.schema import BY_KIND, KINDS, ORDERED
 from plans.writing import write_text
 
-# Tables by the plan paper, apart from the tool's own: number, words of a row, and which of them is the start.
-PLACES = {"window": (4, 3, 1), "piece": (5, 4, 2), "frame": (8, 5, 4)}
+# Tables in order: number, words of a row, and which of them is the start. test_schema.py has these numbers as the plan paper has them.
+PLACES = {kind: (KINDS.index(kind) + 1, BY_KIND[kind].row_words, BY_KIND[kind].record._fields.index("start")) for kind in ORDERED}
 
 
 def by_paper(kind, row):
@@ -81,9 +82,6 @@ class InOrder(unittest.TestCase):
             plan = Plan((10, 0), {**dict.fromkeys(KINDS, []), kind: rows})
             self.assertEqual(in_order(plan).rows[kind], sorted(rows, key=lambda row: by_paper(kind, row)))
 
-    def test_the_kinds_in_order(self):
-        self.assertEqual(set(ORDERED), set(PLACES))
-
     def test_names_and_lines_go_with_their_rows(self):
         text = CASE_A + "window late vcpu=guest at=8..9\nwindow early vcpu=guest at=4..5\npiece task=decode job=0 at=0..1\n"
         plan = in_order(read_text("p.txt", text))
@@ -120,14 +118,14 @@ class InOrder(unittest.TestCase):
 
 class Examples(unittest.TestCase):
     def test_32_is_said_exactly_where_rows_fall(self):
-        """Of the examples that pass 1 to 5, by the order's words over the image's."""
-        found = 0
+        """Of the examples that pass the questions before it, by the order's words over the image's."""
+        found, before = 0, list(QUESTIONS)[:list(QUESTIONS).index(ORDER)]
         for path in sorted(EXAMPLES.glob("*.lines")):
             answer = parse(path.read_text().splitlines()[0])
-            if not 1 <= answer.number <= 5:
-                fallen = (answer.table, answer.row) if answer.number == 32 else None
+            if answer.number not in before:
+                fallen = (answer.table, answer.row) if answer.number == ORDER else None
                 self.assertEqual(first_fall(path.with_suffix(".image").read_bytes()), fallen, path.stem)
-                found += answer.number == 32
+                found += answer.number == ORDER
         self.assertGreaterEqual(found, 7)
 
 

@@ -4,12 +4,14 @@ import unittest
 from support import EXAMPLES, SHAPES, generated
 
 from plans.answers import Answer
+from plans.columns import WORD_BYTES
 from plans.files import load
 from plans.image import decode, encode
 from plans.listing import listing
 from plans.picture.drawing import picture
+from plans.questions import QUESTIONS
 from plans.reading import read_text
-from plans.schema import TABLES
+from plans.schema import LONGEST, TABLES, TRAILER_BYTES
 from plans.troubles import BadValue
 from plans.writing import write_text
 
@@ -22,17 +24,16 @@ def again(image):
 
 
 def readable(image):
-    """Questions 1 to 3 by their words, apart from the tool's own reading."""
-    word = lambda at: int.from_bytes(image[at:at + 4], "little")
-    if not 92 <= len(image) <= 64604 or word(len(image) - 4) != len(image) - 92:
+    """Questions 1 to 3 by their words, apart from the tool's own reading; the sizes are the schema's."""
+    word = lambda at: int.from_bytes(image[at:at + WORD_BYTES], "little")
+    at, trailer = 0, len(image) - TRAILER_BYTES
+    if not TRAILER_BYTES <= len(image) <= LONGEST or word(len(image) - WORD_BYTES) != trailer:
         return False
-    at, trailer = 0, len(image) - 92
-    widths, bounds = (3, 1, 5, 3, 4, 4, 5, 5, 3, 3), (32, 64, 256, 1024, 2048, 64, 64, 512, 64, 32)
-    for table in range(10):
-        offset, rows = word(trailer + 8 + 8 * table), word(trailer + 12 + 8 * table)
-        if offset != at or rows > bounds[table] or rows < (table == 0):
+    for number, table in enumerate(TABLES):
+        offset, rows = word(trailer + 8 + 8 * number), word(trailer + 12 + 8 * number)
+        if offset != at or not table.least <= rows <= table.most:
             return False
-        at += 4 * rows * widths[table]
+        at += rows * table.row_bytes
     return at == trailer
 
 
@@ -59,7 +60,7 @@ class RoundTrips(unittest.TestCase):
 
     def test_examples(self):
         images = {path: path.read_bytes() for path in EXAMPLES.glob("*.image")}
-        self.assertGreater(len(images), 24)
+        self.assertGreaterEqual(len(images), len(QUESTIONS))
         for path, image in images.items():
             self.assertEqual(encode(load(path.with_suffix(".txt"))), image, path.stem)
             if readable(image):
@@ -68,14 +69,14 @@ class RoundTrips(unittest.TestCase):
     def test_images_of_no_whole_words(self):
         """A byte too much in front of the trailer, the last word set right."""
         image = generated("small")
-        trailer = len(image) - 92
+        trailer = len(image) - TRAILER_BYTES
         longer = image[:trailer] + b"\0" + image[trailer:-4] + (trailer + 1).to_bytes(4, "little")
         self.assertFalse(readable(longer))
         self.assertRaisesRegex(BadValue, "question 3", decode, longer)
 
     def test_highest_words(self):
         image = encode(decode(generated("small")))
-        trailer = len(image) - 92
+        trailer = len(image) - TRAILER_BYTES
         highest = b"\xff" * trailer + image[trailer:]
         self.assertEqual(again(highest), highest)
 
@@ -91,7 +92,7 @@ class RoundTrips(unittest.TestCase):
     def test_rows_of_no_row_can_be_drawn(self):
         """Every word is one that names no row and lies past the cycle."""
         image = generated("rich")
-        plan = decode(b"\xff" * (len(image) - 92) + image[-92:])
+        plan = decode(b"\xff" * (len(image) - TRAILER_BYTES) + image[-TRAILER_BYTES:])
         for table in range(1, len(TABLES) + 1):
             self.assertIn("</svg>", picture(plan, "no rows", Answer(5, table, 0)))
         self.assertIn("4294967295", listing(plan))

@@ -5,9 +5,9 @@ from pathlib import Path
 
 from support import CASE_A, case_a_with
 
-from plans.image import encode
+from plans.image import encode, pack, unpack
 from plans.reading import read_text
-from plans.schema import LONGEST, TABLES, TRAILER_BYTES
+from plans.schema import BY_KIND, TABLES, TRAILER_BYTES, TRAILER_WORDS
 from plans.troubles import Trouble
 from plans.writing import write_text
 
@@ -21,18 +21,18 @@ def troubles(text):
     return []
 
 
+def image_of(more=""):
+    """The image of case A with more lines."""
+    return encode(read_text("p.txt", CASE_A + more))
+
+
+def with_word(image, number, word):
+    words = list(unpack(image))
+    words[number] = word
+    return pack(words)
+
+
 class Reading(unittest.TestCase):
-    def test_case_a_is_the_papers_image(self):
-        words = [0, 1, 2, 0, 0, 1, 10, 3, 8, 0, 0, 10, 0, 0, 2, 4, 10, 0]
-        for offset, rows in ((0, 1), (12, 1), (16, 1), (36, 1), (48, 1), (64, 0), (64, 0), (64, 0), (64, 0), (64, 0)):
-            words += [offset, rows]
-        expected = b"".join(word.to_bytes(4, "little") for word in [*words, 64])
-        self.assertEqual(encode(read_text("p.txt", CASE_A)), expected)
-        self.assertEqual(len(expected), 156)
-
-    def test_sizes_are_the_papers(self):
-        self.assertEqual((TRAILER_BYTES, LONGEST), (92, 64604))
-
     def test_rows_by_number_and_name_are_the_same(self):
         by_number = case_a_with(4, "task decode vcpu=0 cores=0 period=10 budget=3 deadline=8")
         self.assertEqual(encode(read_text("p.txt", by_number)), encode(read_text("p.txt", CASE_A)))
@@ -66,33 +66,40 @@ class Reading(unittest.TestCase):
 
     def test_chains(self):
         """A name for a task, a number that need not exist, and the row's place behind all other tables."""
-        image = encode(read_text("p.txt", CASE_A + "chain far first=decode last=9 limit=0\nchain first=1 last=0 limit=7\n"))
-        words = [int.from_bytes(image[at:at + 4], "little") for at in range(64, len(image), 4)]
-        self.assertEqual((words[:6], words[-3:], len(image)), ([0, 9, 0, 1, 0, 7], [64, 2, 88], 180))
+        plan = read_text("p.txt", CASE_A + "chain far first=decode last=9 limit=0\nchain first=1 last=0 limit=7\n")
+        chain = BY_KIND["chain"].row
+        self.assertEqual(plan.rows["chain"], [chain(first=0, last=9, limit=0), chain(first=1, last=0, limit=7)])
+        others, image = image_of(), encode(plan)
+        behind = len(others) - TRAILER_BYTES
+        self.assertEqual(image[:behind], others[:behind])
+        self.assertEqual(unpack(image)[-3:], (behind, 2, len(image) - TRAILER_BYTES))
 
     def test_chains_are_written_back(self):
         written = write_text(read_text("p.txt", CASE_A + "chain far first=decode last=9 limit=0\n"))
         self.assertIn("chain  far  first=decode  last=9  limit=0", written)
 
     def test_raw_changes(self):
-        image = encode(read_text("p.txt", CASE_A))
+        image = image_of()
+        trailer = len(unpack(image)) - TRAILER_WORDS
         for raw, expected in (
-            ("last-word=63", image[:-4] + b"\x3f\0\0\0"),
-            ("length=158", image + b"\0\0"),
+            ("last-word=63", with_word(image, -1, 63)),
+            (f"length={len(image) + 2}", image + b"\0\0"),
             ("length=3", image[:3]),
-            ("core.rows=2", image[:76] + b"\2" + image[77:]),
-            ("vcpu.offset=16", image[:80] + b"\x10" + image[81:]),
-            ("core.words=3", image),
-            ("chain.rows=1", image[:148] + b"\1" + image[149:]),
+            ("core.rows=2", with_word(image, trailer + 3, 2)),
+            ("vcpu.offset=16", with_word(image, trailer + 4, 16)),
+            (f"core.words={BY_KIND['core'].row_words}", image),
+            ("chain.rows=1", with_word(image, -2, 1)),
         ):
-            self.assertEqual(encode(read_text("p.txt", CASE_A + f"raw {raw}\n")), expected, raw)
+            self.assertEqual(image_of(f"raw {raw}\n"), expected, raw)
 
     def test_rows_cut_short(self):
         """Later tables move down with the words that go, and the trailer tells where they are."""
-        image = encode(read_text("p.txt", CASE_A + "raw core.words=2\n"))
-        words = [int.from_bytes(image[at:at + 4], "little") for at in range(0, len(image), 4)]
-        self.assertEqual(words[:4], [0, 1, 0, 0])
-        self.assertEqual((words[-23:-17], words[-1], len(image)), ([10, 0, 0, 1, 8, 1], 60, 152))
+        whole, cut, core = unpack(image_of()), unpack(image_of("raw core.words=2\n")), BY_KIND["core"]
+        gone = core.row_words - 2
+        self.assertEqual(cut[:-TRAILER_WORDS], whole[:2] + whole[core.row_words:-TRAILER_WORDS])
+        moved = {*range(4, TRAILER_WORDS - 1, 2), TRAILER_WORDS - 1}  # the offsets of later tables, and the last word
+        trailer = [word - 4 * gone * (number in moved) for number, word in enumerate(whole[-TRAILER_WORDS:])]
+        self.assertEqual(cut[-TRAILER_WORDS:], tuple(trailer))
 
     def test_comments_tabs_and_line_ends(self):
         text = CASE_A.replace(" ", "\t").replace("\n", "  # why\r\n") + "# end"
@@ -180,8 +187,10 @@ class BadText(unittest.TestCase):
     def test_chains(self):
         self.expect(CASE_A + "chain far first=decode last=9\n", "p.txt:7: chain far lacks limit")
         self.expect(CASE_A + "chain first=decode last=send limit=0\n", "p.txt:7: chain: last: no task is named 'send'")
-        rows = "chain first=0 last=1 limit=0\n" * 33
-        self.expect(CASE_A + rows, "p.txt:39: 33 chain rows; a plan has at most 32, and this is the next")
+        most = BY_KIND["chain"].most
+        rows = "chain first=0 last=1 limit=0\n" * (most + 1)
+        message = f"p.txt:{7 + most}: {most + 1} chain rows; a plan has at most {most}, and this is the next"
+        self.expect(CASE_A + rows, message)
 
     def test_change_and_drop(self):
         self.expect(CASE_A + "change task decod period=3\n", "p.txt:7: there is no task decod (did you mean decode?)")
@@ -194,7 +203,8 @@ class BadText(unittest.TestCase):
     def test_raw(self):
         self.expect(CASE_A + "raw last=63\n", "p.txt:7: raw has no key 'last'")
         self.expect(CASE_A + "raw length=9999999\n", "p.txt:7: length=9999999 is past")
-        self.expect(CASE_A + "raw link.words=5\n", "p.txt:7: link.words=5 is past 4")
+        words = BY_KIND["link"].row_words
+        self.expect(CASE_A + f"raw link.words={words + 1}\n", f"p.txt:7: link.words={words + 1} is past {words}")
 
 
 class Bases(unittest.TestCase):

@@ -2,7 +2,7 @@
 
 use std::collections::BTreeMap;
 
-use crate::image::{Plan, CHAIN, ROW_BOUNDS};
+use crate::image::{row_of, Chain, Plan, CHAIN, ROW_BOUNDS};
 use crate::rng::Rng;
 
 /// For each task those that a path leads to, with the most messages that a
@@ -13,7 +13,7 @@ type Steps = Vec<BTreeMap<u32, u32>>;
 /// are as many as wanted, or else any number in bounds.
 ///
 /// Every message of the plan must lead from a task to one of a later row.
-pub fn lay_chains(plan: &Plan, wanted: Option<usize>, rng: &mut Rng) -> Option<Vec<[u32; 3]>> {
+pub fn lay_chains(plan: &Plan, wanted: Option<usize>, rng: &mut Rng) -> Option<Vec<Chain>> {
     let steps = steps(plan);
     let leading = |task: &u32| !steps[*task as usize].is_empty();
     let leading: Vec<u32> = (0..steps.len() as u32).filter(leading).collect();
@@ -28,7 +28,7 @@ pub fn lay_chains(plan: &Plan, wanted: Option<usize>, rng: &mut Rng) -> Option<V
     let chain = |_| {
         let first = rng.pick(&leading);
         let last = any_last(&steps[first as usize], rng);
-        [first, last, any_limit(plan, &spans, first, last, rng)]
+        row_of([first, last, any_limit(plan, &spans, first, last, rng)])
     };
     Some((0..count).map(chain).collect())
 }
@@ -69,7 +69,7 @@ type Spans = BTreeMap<(u32, u32), (u32, u32)>;
 
 fn spans(plan: &Plan) -> Spans {
     let mut spans = Spans::new();
-    for &[task, k, start, length] in &plan.pieces {
+    for &[task, k, start, length, ..] in &plan.pieces {
         let end = start + length;
         let span = spans.entry((task, k)).or_insert((start, end));
         *span = (span.0.min(start), span.1.max(end));

@@ -3,7 +3,7 @@
 use super::chains::lay_chains;
 use super::timeline::Timeline;
 use super::windows::lay_windows;
-use crate::image::{Link, Plan, ROW_BOUNDS};
+use crate::image::{row_of, Plan, ROW_BOUNDS};
 use crate::rng::Rng;
 
 /// The longest latency a stream can ask for.
@@ -98,16 +98,16 @@ impl Draft {
     }
 
     pub fn add_core(&mut self, node: u32, d: u32, v: u32) {
-        self.plan.cores.push([node, d, v]);
+        self.plan.cores.push(row_of([node, d, v]));
         self.core_lines.push(Timeline::default());
     }
 
     pub fn add_vcpu(&mut self, core: u32) {
-        self.plan.vcpus.push([core]);
+        self.plan.vcpus.push(row_of([core]));
     }
 
-    pub fn add_link(&mut self, link: Link) {
-        self.plan.links.push(link);
+    pub fn add_link(&mut self, from: u32, to: u32, delay: u32, rate: u32) {
+        self.plan.links.push(row_of([from, to, delay, rate]));
         self.link_lines.push(Timeline::default());
     }
 
@@ -136,7 +136,7 @@ impl Draft {
         let first_task = self.plan.tasks.len() as u32;
         for task in &transaction.tasks {
             let words = [task.vcpu, 0, transaction.period, task.budget, 0];
-            self.plan.tasks.push(words);
+            self.plan.tasks.push(row_of(words));
         }
         let edges = self.add_edges(transaction, first_task);
         let mut spans = Vec::new();
@@ -162,11 +162,11 @@ impl Draft {
             let to = first_task + flow.to as u32;
             if self.plan.node_of_task(from) == self.plan.node_of_task(to) {
                 edges.push(Edge::Buffer(self.plan.buffers.len() as u32));
-                self.plan.buffers.push([0, from, to]);
+                self.plan.buffers.push(row_of([0, from, to]));
             } else {
                 edges.push(Edge::Stream(self.plan.streams.len() as u32));
                 let stream = [from, to, 0, flow.hops, flow.payload];
-                self.plan.streams.push(stream);
+                self.plan.streams.push(row_of(stream));
             }
         }
         edges
@@ -203,7 +203,7 @@ impl Draft {
     /// Places the frames of a message and gives the tick from which the
     /// receiver may start.
     fn place_frames(&mut self, stream: u32, job: u32, ready: u32, rng: &mut Rng) -> Option<u32> {
-        let [sender, receiver, _, hops, _] = self.plan.streams[stream as usize];
+        let [sender, receiver, _, hops, ..] = self.plan.streams[stream as usize];
         let until = (job + 1) * self.plan.period(sender);
         let from = self.plan.node_of_task(sender);
         let to = self.plan.node_of_task(receiver);
@@ -215,7 +215,8 @@ impl Draft {
             let at_ease = line.fit(asked, until, 0, ticks);
             let start = at_ease.or_else(|| line.fit(earliest, until, 0, ticks))?;
             line.take(start, start + ticks, stream);
-            self.plan.frames.push([stream, job, hop, link, start]);
+            let frame = [stream, job, hop, link, start];
+            self.plan.frames.push(row_of(frame));
             let delay = self.plan.links[link as usize][2];
             earliest = start + ticks + delay + self.plan.precision;
         }
@@ -274,7 +275,7 @@ impl Draft {
             let (_, begin) = span;
             let lengths = self.place_cluster(task, row, &cluster, begin, until, rng)?;
             for (start, length) in lengths {
-                self.plan.pieces.push([row, job, start, length]);
+                self.plan.pieces.push(row_of([row, job, start, length]));
                 span = (span.0.min(start), start + length);
             }
         }
@@ -304,7 +305,7 @@ impl Draft {
     ) -> Option<Vec<(u32, u32)>> {
         let vcpu = task.vcpu;
         let core = self.plan.core_of_vcpu(vcpu) as usize;
-        let [_, d, v] = self.plan.cores[core];
+        let [_, d, v, ..] = self.plan.cores[core];
         let gap = if rng.chance(30) { rng.within(1..=3) } else { 0 };
         let length =
             parts.iter().map(|part| part + d).sum::<u32>() + gap * (parts.len() as u32 - 1);

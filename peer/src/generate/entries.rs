@@ -1,7 +1,7 @@
 //! Plans whose lanes, or one of whose lanes, have as many entries as can be.
 
 use super::draft::shuffled;
-use crate::image::{Plan, ROW_BOUNDS, WINDOW};
+use crate::image::{row_of, Plan, ROW_BOUNDS, WINDOW};
 use crate::rng::Rng;
 
 /// Cores of the senders' node and of the receivers'.
@@ -42,10 +42,10 @@ pub fn longest_lane(rng: &mut Rng) -> Plan {
 /// and so many ticks apart.
 fn add_core(plan: &mut Plan, node: u32, windows: u32, [from, apart]: [u32; 2], rng: &mut Rng) {
     let core = plan.cores.len() as u32;
-    plan.cores
-        .push([node, rng.within(1..=9), rng.within(1..=9)]);
-    plan.vcpus.push([core]);
-    plan.tasks.push([core, 0, CYCLE, 0, CYCLE]);
+    let [d, v] = [rng.within(1..=9), rng.within(1..=9)];
+    plan.cores.push(row_of([node, d, v]));
+    plan.vcpus.push(row_of([core]));
+    plan.tasks.push(row_of([core, 0, CYCLE, 0, CYCLE]));
     for window in 0..windows {
         add_window(plan, core, from + apart * window, rng);
     }
@@ -53,16 +53,16 @@ fn add_core(plan: &mut Plan, node: u32, windows: u32, [from, apart]: [u32; 2], r
 
 /// A window with two pieces, of at most 522 ticks, from some tick on.
 fn add_window(plan: &mut Plan, core: u32, from: u32, rng: &mut Rng) {
-    let [_, d, v] = plan.cores[core as usize];
+    let [_, d, v, ..] = plan.cores[core as usize];
     let start = from + rng.within(0..=400);
     let mut end = start + v + rng.within(1..=99);
     for _ in 0..2 {
         let work = rng.within(1..=99);
-        plan.pieces.push([core, 0, end, d + work]);
+        plan.pieces.push(row_of([core, 0, end, d + work]));
         plan.tasks[core as usize][3] += work;
         end += d + work + rng.within(1..=99);
     }
-    plan.windows.push([core, start, end - start]);
+    plan.windows.push(row_of([core, start, end - start]));
 }
 
 /// 64 streams of eight hops over 64 links, hop after hop.
@@ -70,17 +70,18 @@ fn add_messages(plan: &mut Plan, from: u32, rng: &mut Rng) {
     for link in 0..64 {
         let [start, end] = [link % NODES, (link + 1) % NODES];
         let [delay, rate] = [rng.within(0..=100), rng.within(100..=10_000)];
-        plan.links.push([start, end, delay, rate]);
+        plan.links.push(row_of([start, end, delay, rate]));
     }
     for stream in 0..64 {
         let [sender, receiver] = [0, CORES].map(|first| first + rng.within(0..=CORES - 1));
         let payload = rng.within(46..=1_500);
-        plan.streams.push([sender, receiver, CYCLE, 8, payload]);
+        let words = [sender, receiver, CYCLE, 8, payload];
+        plan.streams.push(row_of(words));
         for hop in 0..8 {
             let first = hop % NODES;
             let link = first + NODES * rng.within(0..=(63 - first) / NODES);
             let start = from + 20_000 * hop + 300 * stream + rng.within(0..=99);
-            plan.frames.push([stream, 0, hop, link, start]);
+            plan.frames.push(row_of([stream, 0, hop, link, start]));
         }
     }
 }

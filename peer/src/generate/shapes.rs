@@ -2,7 +2,7 @@
 
 use super::draft::{shuffled, Draft, Flow, Haste, NewTask, Transaction};
 use super::windows::cut_window;
-use crate::image::Plan;
+use crate::image::{row_of, Plan};
 use crate::rng::Rng;
 
 /// How large a random plan may become.
@@ -164,7 +164,7 @@ pub fn bare(rng: &mut Rng) -> Plan {
     for _ in 0..rng.within(0..=2) {
         let [from, to] = [rng.within(0..=7), rng.within(8..=15)];
         let [delay, rate] = [rng.within(0..=1_000_000), rng.within(1..=10_000)];
-        draft.add_link([from, to, delay, rate]);
+        draft.add_link(from, to, delay, rate);
     }
     let plan = draft.finish(rng);
     plan.expect("no windows are needed")
@@ -182,16 +182,16 @@ pub fn unit_periods(rng: &mut Rng) -> Plan {
         ..Plan::default()
     };
     for task in 0..tasks {
-        plan.cores.push([task, 0, 0]);
-        plan.vcpus.push([task]);
-        plan.tasks.push([task, 0, period, period, period]);
-        let starts = (0..jobs).map(|k| k * period);
-        plan.pieces
-            .extend((0..).zip(starts).map(|(k, start)| [task, k, start, period]));
+        plan.cores.push(row_of([task, 0, 0]));
+        plan.vcpus.push(row_of([task]));
+        plan.tasks.push(row_of([task, 0, period, period, period]));
+        let piece = |k| row_of([task, k, k * period, period]);
+        plan.pieces.extend((0..jobs).map(piece));
         let jobs_per_window = rng.within(jobs.div_ceil(300)..=jobs);
         for first in (0..jobs).step_by(jobs_per_window as usize) {
             let count = jobs_per_window.min(jobs - first);
-            plan.windows.push([task, first * period, count * period]);
+            let window = [task, first * period, count * period];
+            plan.windows.push(row_of(window));
         }
     }
     shuffled(plan, rng)
@@ -241,8 +241,8 @@ impl OneCore {
         let vcpus = rng.within(1..=4);
         OneCore {
             plan: Plan {
-                cores: vec![core],
-                vcpus: vec![[0]; vcpus as usize],
+                cores: vec![row_of(core)],
+                vcpus: vec![row_of([0]); vcpus as usize],
                 ..Plan::default()
             },
             most_tasks,
@@ -258,7 +258,7 @@ impl OneCore {
 
     /// Adds a window with so many pieces, often of the same VCPU as before.
     fn add_window(&mut self, pieces: u32, rng: &mut Rng) {
-        let [_, d, v] = self.plan.cores[0];
+        let [_, d, v, ..] = self.plan.cores[0];
         let any = rng.below(self.plan.vcpus.len()) as u32;
         let vcpu = rng.pick(&[self.vcpu, any]);
         let start = self.now + self.gap(rng);
@@ -268,12 +268,12 @@ impl OneCore {
         for _ in 0..pieces {
             let task = self.next_task(vcpu, rng);
             let work = rng.within(1..=3);
-            self.plan.pieces.push([task, 0, end, d + work]);
+            self.plan.pieces.push(row_of([task, 0, end, d + work]));
             self.plan.tasks[task as usize][3] += work;
             end += d + work + self.gap(rng);
         }
         end = end.max(start + charge + rng.within(1..=4));
-        self.plan.windows.push([vcpu, start, end - start]);
+        self.plan.windows.push(row_of([vcpu, start, end - start]));
         (self.vcpu, self.now) = (vcpu, end);
     }
 
@@ -285,7 +285,7 @@ impl OneCore {
         match rng.pick_any(&known) {
             Some(task) if tasks.len() >= self.most_tasks => task,
             _ => {
-                tasks.push([vcpu, 0, 0, 0, 0]);
+                tasks.push(row_of([vcpu, 0, 0, 0, 0]));
                 tasks.len() as u32 - 1
             }
         }
@@ -302,10 +302,14 @@ impl OneCore {
         let (windows, pieces) = (plan.windows.clone(), plan.pieces.clone());
         for k in 1..jobs {
             let later = k * period;
-            let window = |&[vcpu, start, length]: &[u32; 3]| [vcpu, later + start, length];
-            let piece = |&[task, _, start, length]: &[u32; 4]| [task, k, later + start, length];
-            plan.windows.extend(windows.iter().map(window));
-            plan.pieces.extend(pieces.iter().map(piece));
+            for mut window in windows.iter().copied() {
+                window[1] += later;
+                plan.windows.push(window);
+            }
+            for mut piece in pieces.iter().copied() {
+                (piece[1], piece[2]) = (k, later + piece[2]);
+                plan.pieces.push(piece);
+            }
         }
         shuffled(plan, rng)
     }
@@ -319,33 +323,36 @@ pub fn shared_buffer(rng: &mut Rng) -> Plan {
     let [d, v, pause] = [2, 2, 2].map(|most| rng.within(0..=most));
     let rows = rng.within(2..=4);
     let mut plan = Plan {
-        cores: vec![[rng.within(0..=15), d, v]; cores as usize],
-        vcpus: (0..cores).map(|core| [core]).collect(),
+        cores: vec![row_of([rng.within(0..=15), d, v]); cores as usize],
+        vcpus: (0..cores).map(|core| row_of([core])).collect(),
         ..Plan::default()
     };
     let mut now = v;
     for row in 0..rows {
-        plan.buffers.push([7, 2 * row, 2 * row + 1]);
+        plan.buffers.push(row_of([7, 2 * row, 2 * row + 1]));
         for task in [2 * row, 2 * row + 1] {
             let work = rng.within(1..=2);
             let vcpu = rng.within(0..=cores - 1);
-            plan.tasks.push([vcpu, 0, 0, work, 0]);
+            plan.tasks.push(row_of([vcpu, 0, 0, work, 0]));
             now += rng.within(0..=pause);
-            plan.pieces.push([task, 0, now, d + work]);
+            plan.pieces.push(row_of([task, 0, now, d + work]));
             now += d + work;
         }
     }
     let period = now + rng.within(0..=pause);
     let jobs = rng.within(1..=(60 / period).clamp(1, 3));
     plan.cycle = period * jobs;
-    plan.windows = (0..cores).map(|vcpu| [vcpu, 0, plan.cycle]).collect();
+    let window = |vcpu| row_of([vcpu, 0, plan.cycle]);
+    plan.windows = (0..cores).map(window).collect();
     for task in &mut plan.tasks {
         (task[2], task[4]) = (period, period);
     }
     let first_jobs = plan.pieces.clone();
     for k in 1..jobs {
-        let of_job = |[task, _, start, length]: [u32; 4]| [task, k, k * period + start, length];
-        plan.pieces.extend(first_jobs.iter().copied().map(of_job));
+        for mut piece in first_jobs.iter().copied() {
+            (piece[1], piece[2]) = (k, k * period + piece[2]);
+            plan.pieces.push(piece);
+        }
     }
     for _ in 0..rng.below(4) {
         cut_window(&mut plan, rng);
@@ -382,7 +389,7 @@ fn try_full(rng: &mut Rng) -> Option<Plan> {
         let from = link % nodes;
         let to = (from + 1 + link / nodes % (nodes - 1)) % nodes;
         let rate = any_rate(unit / 800, rng);
-        draft.add_link([from, to, rng.within(0..=unit / 200), rate]);
+        draft.add_link(from, to, rng.within(0..=unit / 200), rate);
     }
     for _ in 0..64 {
         let fits = (0..20).any(|_| {
@@ -502,7 +509,7 @@ fn add_links(draft: &mut Draft, size: &Size, least: u32, nodes: &mut [u32], rng:
         };
         let most_delay = (draft.plan.cycle / 40).max(2);
         let [delay, rate] = [few(most_delay, rng), any_rate(draft.plan.cycle / 24, rng)];
-        draft.add_link([ends[0], ends[1], delay, rate]);
+        draft.add_link(ends[0], ends[1], delay, rate);
     }
 }
 
@@ -730,7 +737,7 @@ fn try_diamond(rng: &mut Rng) -> Option<Plan> {
     }
     for from in 0..nodes {
         for to in (0..nodes).filter(|to| *to != from) {
-            draft.add_link([from, to, rng.within(0..=2), rng.within(352..=10_000)]);
+            draft.add_link(from, to, rng.within(0..=2), rng.within(352..=10_000));
         }
     }
     let period = cycle / rng.pick(&[1, 1, 2]);

@@ -1,6 +1,6 @@
 //! Windows laid around the pieces of a plan.
 
-use crate::image::{Plan, ROW_BOUNDS, WINDOW};
+use crate::image::{row_of, Piece, Plan, Window, ROW_BOUNDS, WINDOW};
 use crate::rng::Rng;
 
 /// A window, or a stretch of pieces that is to become one.
@@ -32,7 +32,7 @@ struct Habits {
 
 /// Windows that hold all pieces, with spare ones in the gaps between. There
 /// are as many as wanted, or else any number in bounds.
-pub fn lay_windows(plan: &Plan, wanted: Option<usize>, rng: &mut Rng) -> Option<Vec<[u32; 3]>> {
+pub fn lay_windows(plan: &Plan, wanted: Option<usize>, rng: &mut Rng) -> Option<Vec<Window>> {
     let habits = Habits {
         adjoining: rng.pick(&[0, 20, 60]),
         together: rng.pick(&[30, 60, 90]),
@@ -49,7 +49,7 @@ fn try_lay(
     wanted: Option<usize>,
     habits: Habits,
     rng: &mut Rng,
-) -> Option<Vec<[u32; 3]>> {
+) -> Option<Vec<Window>> {
     let most = ROW_BOUNDS[WINDOW as usize - 1].1 as usize;
     let mut windows = Vec::new();
     let mut gaps = Vec::new();
@@ -64,7 +64,7 @@ fn try_lay(
         None => rng.below(1 + gaps.len().min(most - windows.len())),
     };
     let added = fill_gaps(plan, gaps, spare, &mut windows, rng);
-    let words = |window: &Stretch| [window.vcpu, window.from, window.to - window.from];
+    let words = |window: &Stretch| row_of([window.vcpu, window.from, window.to - window.from]);
     (wanted.is_none() || added == spare).then(|| windows.iter().map(words).collect())
 }
 
@@ -91,7 +91,7 @@ fn stretches(plan: &Plan, core: u32, habits: Habits, rng: &mut Rng) -> Vec<Stret
 }
 
 fn pieces_on(plan: &Plan, core: u32) -> Vec<Stretch> {
-    let on_core = |&[task, _, start, length]: &[u32; 4]| {
+    let on_core = |&[task, _, start, length, ..]: &Piece| {
         (plan.core_of_task(task) == core).then_some(Stretch {
             vcpu: plan.tasks[task as usize][0],
             from: start,
@@ -207,9 +207,9 @@ fn window_in(gap: Gap, v: u32, vcpu: u32, rng: &mut Rng) -> Option<Stretch> {
 /// accepted plan stays one, its rows in order again.
 pub fn cut_window(plan: &mut Plan, rng: &mut Rng) -> Option<()> {
     let window = rng.below(plan.windows.len().max(1));
-    let [vcpu, start, length] = *plan.windows.get(window)?;
+    let [vcpu, start, length, ..] = *plan.windows.get(window)?;
     let runs_on = |tick: &u32| {
-        plan.pieces.iter().any(|&[task, _, start, length]| {
+        plan.pieces.iter().any(|&[task, _, start, length, ..]| {
             let own = plan.tasks[task as usize][0] == vcpu;
             own && start < *tick && *tick < start + length
         })
@@ -219,7 +219,7 @@ pub fn cut_window(plan: &mut Plan, rng: &mut Rng) -> Option<()> {
     let ticks: Vec<u32> = ticks.filter(|tick| !runs_on(tick)).collect();
     let cut = rng.pick_any(&ticks)?;
     plan.windows[window][2] = cut - start;
-    plan.windows.push([vcpu, cut, start + length - cut]);
+    plan.windows.push(row_of([vcpu, cut, start + length - cut]));
     plan.put_in_order();
     Some(())
 }

@@ -2,8 +2,8 @@
 
 use super::charges::continues;
 use super::cores::window_of;
-use super::{any_pair, any_row, any_where, insert, job_span, wide, word};
-use crate::image::{Plan, BUFFER};
+use super::{any_pair, any_row, any_where, insert, job_span, move_to, wide, word};
+use crate::image::{Piece, Plan, BUFFER};
 use crate::rng::Rng;
 
 /// Whether two tasks may share a buffer.
@@ -45,7 +45,7 @@ pub fn order(plan: &mut Plan, rng: &mut Rng) -> Option<()> {
             Some(())
         }
         _ => {
-            let [number, writer, reader] = plan.buffers[any_row(&plan.buffers, rng)?];
+            let [number, writer, reader, ..] = plan.buffers[any_row(&plan.buffers, rng)?];
             insert(&mut plan.buffers, BUFFER, [number, reader, writer], rng)
         }
     }
@@ -57,7 +57,7 @@ fn shift_reader(plan: &mut Plan, rng: &mut Rng) -> Option<()> {
     let core = |task: u32| plan.core_of_task(task);
     let apart = |row: usize| core(plan.buffers[row][1]) != core(plan.buffers[row][2]);
     let row = any_where(plan.buffers.len(), apart, rng)?;
-    let [_, writer, reader] = plan.buffers[row];
+    let [_, writer, reader, ..] = plan.buffers[row];
     let wait = |k: &u32| {
         let read = job_span(plan, reader, *k).map_or(i64::MAX, |span| span.0);
         read - job_span(plan, writer, *k).map_or(0, |span| span.1)
@@ -65,14 +65,14 @@ fn shift_reader(plan: &mut Plan, rng: &mut Rng) -> Option<()> {
     let k = (0..plan.jobs(writer).min(64)).min_by_key(wait)?;
     let (_, written) = job_span(plan, writer, k)?;
     let (read, _) = job_span(plan, reader, k)?;
-    let is_first = |piece: &[u32; 4]| piece[..2] == [reader, k] && wide(piece[2]) == read;
+    let is_first = |piece: &Piece| piece[..2] == [reader, k] && wide(piece[2]) == read;
     let first = plan.pieces.iter().position(is_first)?;
     let start = written - rng.pick(&[0, 1, 1, 1]);
     if let Some(window) = window_of(plan, first) {
-        let [vcpu, opens, open] = plan.windows[window].map(wide);
+        let [vcpu, opens, open, ..] = plan.windows[window].map(wide);
         let least = start - wide(plan.vcpu_switch(vcpu as u32));
         if opens > start || opens > least && !continues(plan, window) {
-            plan.windows[window] = [vcpu, least, opens + open - least].map(word);
+            move_to(&mut plan.windows[window], least, opens + open - least);
         }
     }
     plan.pieces[first][2] = word(start);

@@ -1,8 +1,8 @@
 //! Changes of the image's bytes, among them those aimed at questions 1 to 3.
 
 use crate::image::{
-    point_back, set_word, width, word_at, Plan, Trailer, CHAIN, LINK, LONGEST, ROW_BOUNDS, TABLES,
-    TRAILER, WIDTHS, WORD,
+    point_back, row_of, set_word, width, word_at, Plan, Trailer, CHAIN, LINK, LONGEST, ROW_BOUNDS,
+    TABLES, TRAILER, WIDTHS, WORD,
 };
 use crate::rng::Rng;
 
@@ -196,12 +196,12 @@ fn old_link_rows(mut image: Vec<u8>) -> Vec<u8> {
 /// One more row than a table may have, laid out as it should be.
 fn too_many_rows(plan: &mut Plan, rng: &mut Rng) {
     match rng.below(6) {
-        0 => plan.cores.resize(33, [0, 0, 0]),
-        1 => plan.vcpus.resize(65, [0]),
-        2 => plan.links.resize(65, [0, 1, 0, 1]),
-        3 => plan.streams.resize(65, [0, 1, 0, 1, 46]),
-        4 => plan.chains.resize(33, [0, 1, 0]),
-        _ => plan.buffers.resize(65, [0, 0, 1]),
+        0 => plan.cores.resize(33, row_of([0, 0, 0])),
+        1 => plan.vcpus.resize(65, row_of([0])),
+        2 => plan.links.resize(65, row_of([0, 1, 0, 1])),
+        3 => plan.streams.resize(65, row_of([0, 1, 0, 1, 46])),
+        4 => plan.chains.resize(33, row_of([0, 1, 0])),
+        _ => plan.buffers.resize(65, row_of([0, 0, 1])),
     }
 }
 

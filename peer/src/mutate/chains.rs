@@ -1,17 +1,18 @@
 //! Changes aimed at questions 29 to 31.
 
 use super::{any_pair, any_row, any_where, insert, job_span, wide, word};
-use crate::image::{Plan, CHAIN};
+use crate::image::{row_of, Chain, Plan, CHAIN};
 use crate::rng::Rng;
 
-/// Sets a chain, in place of another or as one more row.
-fn put(plan: &mut Plan, chain: [u32; 3], rng: &mut Rng) -> Option<()> {
+/// Sets a chain of first task, last task and limit, in place of another or as
+/// one more row.
+fn put(plan: &mut Plan, words: [u32; 3], rng: &mut Rng) -> Option<()> {
     match any_row(&plan.chains, rng) {
         Some(row) if rng.chance(50) => {
-            plan.chains[row] = chain;
+            plan.chains[row] = row_of(words);
             Some(())
         }
-        _ => insert(&mut plan.chains, CHAIN, chain, rng),
+        _ => insert(&mut plan.chains, CHAIN, words, rng),
     }
 }
 
@@ -51,9 +52,9 @@ pub fn tasks(plan: &mut Plan, rng: &mut Rng) -> Option<()> {
     let more = rows + rng.word() % 8;
     let numbers = [rows, rows, rows + 1, more, 1 << 31, u32::MAX];
     let beyond = rng.pick(&numbers);
-    let [mut first, mut last, limit] = match any_row(&plan.chains, rng) {
+    let [mut first, mut last, limit, ..] = match any_row(&plan.chains, rng) {
         Some(row) => plan.chains[row],
-        None => [0, rows.saturating_sub(1), rng.pick(&[0, u32::MAX])],
+        None => row_of([0, rows.saturating_sub(1), rng.pick(&[0, u32::MAX])]),
     };
     match rng.below(7) {
         0 | 1 => first = beyond,
@@ -111,7 +112,8 @@ fn apart(plan: &Plan, rng: &mut Rng) -> Option<(u32, u32)> {
         3 | 7 => {
             let one_buffer = |a: u32, b: u32| plan.node_of_task(a) == plan.node_of_task(b);
             let one_number = |a: usize, b: usize| {
-                let ([one, writer, _], [other, _, reader]) = (plan.buffers[a], plan.buffers[b]);
+                let ([one, writer, ..], [other, _, reader, ..]) =
+                    (plan.buffers[a], plan.buffers[b]);
                 let apart = apart(writer as usize, reader as usize);
                 one == other && one_buffer(writer, reader) && apart
             };
@@ -140,7 +142,7 @@ fn apart(plan: &Plan, rng: &mut Rng) -> Option<(u32, u32)> {
 fn is_cut(plan: &Plan) -> bool {
     let reached = reached(plan);
     let mut chains = plan.chains.iter();
-    chains.any(|&[first, last, _]| !reached[first as usize][last as usize])
+    chains.any(|&[first, last, ..]| !reached[first as usize][last as usize])
 }
 
 /// Takes out a buffer that a chain needs.
@@ -207,9 +209,9 @@ fn a_period_and_no_more(plan: &mut Plan, rng: &mut Rng) -> Option<()> {
     plan.streams.clear();
     plan.frames.clear();
     let reached = reached(plan);
-    let joined = |row: &[u32; 3]| reached[row[0] as usize][row[1] as usize];
+    let joined = |row: &Chain| reached[row[0] as usize][row[1] as usize];
     plan.chains.retain(joined);
-    let [_, first, last] = plan.buffers[any_row(&plan.buffers, rng)?];
+    let [_, first, last, ..] = plan.buffers[any_row(&plan.buffers, rng)?];
     let longest = taken(plan, first, last).into_iter().max()?;
     let precision = wide(plan.period(first)) - longest + rng.pick(&[0, 1, 1]);
     plan.precision = word(precision);
@@ -221,7 +223,7 @@ fn a_period_and_no_more(plan: &mut Plan, rng: &mut Rng) -> Option<()> {
 /// which a later job takes longest, or that take longer than a period.
 fn joined(plan: &Plan, rng: &mut Rng) -> Option<(u32, u32)> {
     if let Some(row) = any_row(&plan.chains, rng).filter(|_| rng.chance(40)) {
-        let [first, last, _] = plan.chains[row];
+        let [first, last, ..] = plan.chains[row];
         return Some((first, last)).filter(|_| reached(plan)[first as usize][last as usize]);
     }
     let reached = reached(plan);

@@ -2,7 +2,7 @@
 //! switch to its VCPU.
 
 use super::{any_where, insert, wide, word};
-use crate::image::{Plan, ROW_BOUNDS, VCPU, WINDOW};
+use crate::image::{row_of, Plan, Window, ROW_BOUNDS, VCPU, WINDOW};
 use crate::rng::Rng;
 
 fn switch(plan: &Plan, window: usize) -> i64 {
@@ -15,7 +15,7 @@ fn end(plan: &Plan, window: usize) -> i64 {
 
 /// Another window of the VCPU that ends where this one begins.
 fn predecessor(plan: &Plan, window: usize) -> Option<usize> {
-    let [vcpu, start, _] = plan.windows[window];
+    let [vcpu, start, ..] = plan.windows[window];
     let is_it = |other: &usize| {
         let owned = plan.windows[*other][0] == vcpu;
         *other != window && owned && end(plan, *other) == wide(start)
@@ -30,9 +30,9 @@ pub fn continues(plan: &Plan, window: usize) -> bool {
 
 /// The pieces that lie in a window, in the order of time.
 fn pieces_in(plan: &Plan, window: usize) -> Vec<usize> {
-    let [vcpu, start, _] = plan.windows[window];
+    let [vcpu, start, ..] = plan.windows[window];
     let is_inside = |piece: &usize| {
-        let [task, _, begin, length] = plan.pieces[*piece];
+        let [task, _, begin, length, ..] = plan.pieces[*piece];
         let owned = plan.tasks[task as usize][0] == vcpu;
         owned && start <= begin && wide(begin) + wide(length) <= end(plan, window)
     };
@@ -59,7 +59,7 @@ fn other_vcpu(plan: &mut Plan, vcpu: u32, rng: &mut Rng) -> Option<u32> {
     if let Some(other) = any_where(rows, on_core, rng) {
         return Some(other as u32);
     }
-    plan.vcpus.push([core]);
+    plan.vcpus.push(row_of([core]));
     (rows < ROW_BOUNDS[VCPU as usize - 1].1 as usize).then_some(rows as u32)
 }
 
@@ -86,7 +86,7 @@ fn cut_tail(plan: &mut Plan, rng: &mut Rng) -> Option<()> {
     let any = |row: usize| switch(plan, row) > 0 && wide(plan.windows[row][2]) > switch(plan, row);
     let rows = plan.windows.len();
     let row = any_where(rows, exact, rng).or_else(|| any_where(rows, any, rng))?;
-    let [vcpu, _, length] = plan.windows[row];
+    let [vcpu, _, length, ..] = plan.windows[row];
     let v = plan.vcpu_switch(vcpu);
     let short = rng.pick(&[v, v, v, 1, v + 1]).min(length - 1);
     let start = word(end(plan, row) - wide(short));
@@ -119,7 +119,7 @@ fn short_at_tick_0(plan: &mut Plan, rng: &mut Rng) -> Option<()> {
     let row = window_at_end(plan, rng)?;
     let vcpu = plan.windows[row][0];
     let core = plan.core_of_vcpu(vcpu);
-    let on_core = |window: &&[u32; 3]| plan.core_of_vcpu(window[0]) == core;
+    let on_core = |window: &&Window| plan.core_of_vcpu(window[0]) == core;
     let starts = plan.windows.iter().filter(on_core).map(|window| window[1]);
     let free = starts.min()?;
     let short = plan.vcpu_switch(vcpu).min(free);
@@ -137,11 +137,11 @@ fn cut_at_tick_0(plan: &mut Plan, rng: &mut Rng) -> Option<()> {
     let v = plan.vcpu_switch(vcpu);
     let first = rng.pick(&[v, v, v + 1]);
     let serves = |row: usize| {
-        let [owner, start, length] = plan.windows[row];
+        let [owner, start, length, ..] = plan.windows[row];
         plan.core_of_vcpu(owner) == plan.core_of_vcpu(vcpu) && start == 0 && length > first
     };
     let row = any_where(plan.windows.len(), serves, rng)?;
-    let [owner, _, length] = plan.windows[row];
+    let [owner, _, length, ..] = plan.windows[row];
     plan.windows[row][2] = first;
     insert(
         &mut plan.windows,
@@ -157,7 +157,7 @@ fn empty_before(plan: &mut Plan, rng: &mut Rng) -> Option<()> {
     let at_0 = rng.chance(50);
     let serves = |row: usize| switch(plan, row) > 0 && (plan.windows[row][1] == 0) == at_0;
     let row = any_where(plan.windows.len(), serves, rng)?;
-    let [vcpu, start, _] = plan.windows[row];
+    let [vcpu, start, ..] = plan.windows[row];
     let least = u32::from(rng.chance(80));
     plan.windows[row][2] = rng.within(least..=plan.vcpu_switch(vcpu));
     for _ in 0..rng.within(1..=2) {
@@ -170,7 +170,7 @@ fn empty_before(plan: &mut Plan, rng: &mut Rng) -> Option<()> {
 /// 2^32.
 fn wrapped_before(plan: &mut Plan, rng: &mut Rng) -> Option<()> {
     let row = any_where(plan.windows.len(), |row| switch(plan, row) > 0, rng)?;
-    let [vcpu, start, _] = plan.windows[row];
+    let [vcpu, start, ..] = plan.windows[row];
     plan.windows[row][2] = rng.within(1..=plan.vcpu_switch(vcpu));
     let later = start + rng.within(1..=9);
     let length = start.wrapping_sub(later);
@@ -189,7 +189,7 @@ fn part_from_predecessor(plan: &mut Plan, rng: &mut Rng) -> Option<()> {
 /// Makes a window that continues pay, or leaves it a second predecessor.
 fn leave(plan: &mut Plan, row: usize, rng: &mut Rng) -> Option<()> {
     let before = predecessor(plan, row)?;
-    let [vcpu, start, length] = plan.windows[before];
+    let [vcpu, start, length, ..] = plan.windows[before];
     match rng.below(5) {
         0 => plan.windows[before][0] = other_vcpu(plan, vcpu, rng)?,
         1 => plan.windows[before][2] = length.saturating_sub(1),
@@ -242,7 +242,7 @@ fn piece_at_tick_0(plan: &mut Plan, rng: &mut Rng) -> Option<()> {
     let last = window_at_end(plan, rng)?;
     let vcpu = plan.windows[last][0];
     let serves = |row: usize| {
-        let [owner, start, _] = plan.windows[row];
+        let [owner, start, ..] = plan.windows[row];
         owner == vcpu && start == 0 && !pieces_in(plan, row).is_empty()
     };
     let row = any_where(plan.windows.len(), serves, rng)?;
@@ -261,15 +261,16 @@ fn cut_before_piece(plan: &mut Plan, rng: &mut Rng) -> Option<()> {
         switch(plan, row) > 0 && first.is_some_and(|piece| wide(plan.pieces[piece][2]) > least)
     };
     let row = any_where(plan.windows.len(), serves, rng)?;
-    let [vcpu, start, length] = plan.windows[row];
+    let [vcpu, start, length, ..] = plan.windows[row];
     let piece = plan.pieces[pieces_in(plan, row)[0]][2];
     let least = start + plan.vcpu_switch(vcpu) + 1;
     let cut = rng.pick(&[piece, piece, piece - 1]).max(least);
-    plan.windows[row] = match rng.below(3) {
-        0 => [other_vcpu(plan, vcpu, rng)?, start, cut - start],
-        1 => [vcpu, start, cut - start - 1],
-        _ => [vcpu, start, cut - start],
+    let (owner, open) = match rng.below(3) {
+        0 => (other_vcpu(plan, vcpu, rng)?, cut - start),
+        1 => (vcpu, cut - start - 1),
+        _ => (vcpu, cut - start),
     };
+    (plan.windows[row][0], plan.windows[row][2]) = (owner, open);
     // The piece lies in the window, and so the cut does.
     let rest = [vcpu, cut, start + length - cut];
     insert(&mut plan.windows, WINDOW, rest, rng)

@@ -1,8 +1,8 @@
 //! Changes aimed at questions 4 to 13.
 
 use super::charges::{early_piece, short_window};
-use super::{any_pair, any_row, any_where, insert, job_span, set, wide, word};
-use crate::image::{Plan, PIECE, TASK, WINDOW};
+use super::{any_pair, any_row, any_where, insert, job_span, move_to, set, wide, word};
+use crate::image::{row_of, Plan, PIECE, TASK, WINDOW};
 use crate::rng::Rng;
 
 pub fn limits(plan: &mut Plan, rng: &mut Rng) -> Option<()> {
@@ -57,7 +57,7 @@ fn core_range(plan: &mut Plan, rng: &mut Rng) -> Option<()> {
 
 fn task_range(plan: &mut Plan, rng: &mut Rng) -> Option<()> {
     let row = any_row(&plan.tasks, rng)?;
-    let [_, _, period, budget, deadline] = plan.tasks[row];
+    let [_, _, period, budget, deadline, ..] = plan.tasks[row];
     let (column, value) = match rng.below(7) {
         0 => (2, 0),
         1 => (2, period.wrapping_add(1)),
@@ -116,7 +116,7 @@ pub fn window_bounds(plan: &mut Plan, rng: &mut Rng) -> Option<()> {
         return short_window(plan, rng);
     }
     let row = any_row(&plan.windows, rng)?;
-    let [vcpu, start, length] = plan.windows[row];
+    let [vcpu, start, length, ..] = plan.windows[row];
     let v = plan.vcpu_switch(vcpu);
     let (start, length) = match rng.below(6) {
         0 => (start, v),
@@ -129,7 +129,7 @@ pub fn window_bounds(plan: &mut Plan, rng: &mut Rng) -> Option<()> {
             rng.pick(&[u32::MAX, 1 << 31, 0_u32.wrapping_sub(start)]),
         ),
     };
-    plan.windows[row] = [vcpu, start, length];
+    (plan.windows[row][1], plan.windows[row][2]) = (start, length);
     Some(())
 }
 
@@ -142,8 +142,8 @@ pub fn window_clash(plan: &mut Plan, rng: &mut Rng) -> Option<()> {
     let core = |row: usize| plan.core_of_vcpu(plan.windows[row][0]);
     let one_core = |a: usize, b: usize| core(a) == core(b);
     let (a, b) = any_pair(plan.windows.len(), one_core, rng)?;
-    let [vcpu, start, length] = plan.windows[a].map(wide);
-    let [_, other_start, other_length] = plan.windows[b].map(wide);
+    let [_, start, length, ..] = plan.windows[a].map(wide);
+    let [_, other_start, other_length, ..] = plan.windows[b].map(wide);
     let over = rng.pick(&[0, 1, 1, 1, 2]);
     let (start, length) = match rng.below(4) {
         0 => (0, wide(plan.cycle)),
@@ -154,7 +154,7 @@ pub fn window_clash(plan: &mut Plan, rng: &mut Rng) -> Option<()> {
             (begin, start + length - begin)
         }
     };
-    plan.windows[a] = [vcpu, start, length].map(word);
+    move_to(&mut plan.windows[a], start, length);
     Some(())
 }
 
@@ -175,8 +175,8 @@ pub fn mask(plan: &mut Plan, rng: &mut Rng) -> Option<()> {
 
 pub fn piece_in_job(plan: &mut Plan, rng: &mut Rng) -> Option<()> {
     let row = any_row(&plan.pieces, rng)?;
-    let [task, k, start, length] = plan.pieces[row];
-    let [_, _, period, budget, deadline] = plan.tasks[task as usize];
+    let [task, k, start, length, ..] = plan.pieces[row];
+    let [_, _, period, budget, deadline, ..] = plan.tasks[task as usize];
     let release = wide(k) * wide(period);
     let jobs = plan.jobs(task);
     let piece = &mut plan.pieces[row];
@@ -207,9 +207,9 @@ pub fn piece_in_job(plan: &mut Plan, rng: &mut Rng) -> Option<()> {
 
 /// The window that holds a piece.
 pub fn window_of(plan: &Plan, piece: usize) -> Option<usize> {
-    let [task, _, start, length] = plan.pieces[piece];
+    let [task, _, start, length, ..] = plan.pieces[piece];
     let vcpu = plan.tasks[task as usize][0];
-    plan.windows.iter().position(|&[owner, opens, open]| {
+    plan.windows.iter().position(|&[owner, opens, open, ..]| {
         let ends = wide(start) + wide(length) <= wide(opens) + wide(open);
         owner == vcpu && opens <= start && ends
     })
@@ -221,15 +221,15 @@ pub fn piece_in_window(plan: &mut Plan, rng: &mut Rng) -> Option<()> {
     }
     let row = any_row(&plan.pieces, rng)?;
     let window = window_of(plan, row)?;
-    let [task, _, start, length] = plan.pieces[row].map(wide);
-    let [vcpu, opens, open] = plan.windows[window].map(wide);
+    let [task, _, start, length, ..] = plan.pieces[row].map(wide);
+    let [vcpu, opens, open, ..] = plan.windows[window].map(wide);
     let core = plan.core_of_vcpu(vcpu as u32);
     let v = wide(plan.cores[core as usize][2]);
     let closes = opens + open;
     match rng.below(7) {
         0 => {
             let later = start - v + rng.pick(&[0, 1, 1]);
-            plan.windows[window] = [vcpu, later, closes - later].map(word);
+            move_to(&mut plan.windows[window], later, closes - later);
         }
         1 => {
             let sooner = start + length - rng.pick(&[0, 1, 1]);
@@ -273,8 +273,8 @@ pub fn piece_clash(plan: &mut Plan, rng: &mut Rng) -> Option<()> {
     if rng.chance(30) && reach_over(plan, rng).is_some() {
         return Some(());
     }
-    let [task, k, _, length] = plan.pieces[row].map(wide);
-    let [vcpu, _, period, _, deadline] = plan.tasks[task as usize];
+    let [task, k, _, length, ..] = plan.pieces[row].map(wide);
+    let [vcpu, _, period, _, deadline, ..] = plan.tasks[task as usize];
     let release = k * wide(period);
     let room = (release, release + wide(deadline) - length);
     let other_jobs = rng.chance(50);
@@ -300,7 +300,7 @@ fn reach_over(plan: &mut Plan, rng: &mut Rng) -> Option<()> {
     };
     let due = |row: usize| {
         let [task, k, ..] = plan.pieces[row].map(wide);
-        let [_, _, period, _, deadline] = plan.tasks[task as usize].map(wide);
+        let [_, _, period, _, deadline, ..] = plan.tasks[task as usize].map(wide);
         k * period + deadline
     };
     let serves = |row: usize| {
@@ -308,7 +308,7 @@ fn reach_over(plan: &mut Plan, rng: &mut Rng) -> Option<()> {
         next(row).is_some_and(|other| other > row + 1 && start(other) < due(row))
     };
     let row = any_where(plan.pieces.len().min(300), serves, rng)?;
-    let [_, _, start, _] = plan.pieces[row];
+    let [_, _, start, ..] = plan.pieces[row];
     let reached = plan.pieces[next(row)?][2] + rng.pick(&[0, 1, 1, 1]);
     plan.pieces[row][3] = reached.wrapping_sub(start);
     Some(())
@@ -316,7 +316,7 @@ fn reach_over(plan: &mut Plan, rng: &mut Rng) -> Option<()> {
 
 /// The first and last start in some room of a piece that overlaps another.
 fn clash_starts(plan: &Plan, other: usize, length: i64, room: (i64, i64)) -> Option<(i64, i64)> {
-    let [_, _, start, other_length] = plan.pieces[other].map(wide);
+    let [_, _, start, other_length, ..] = plan.pieces[other].map(wide);
     let first = room.0.max(start - length + 1);
     let last = room.1.min(start + other_length - 1);
     (first <= last).then_some((first, last))
@@ -340,7 +340,7 @@ pub fn budget(plan: &mut Plan, rng: &mut Rng) -> Option<()> {
         4 => return trade_pieces(plan, rng),
         _ => {
             let row = any_row(&plan.tasks, rng)?;
-            let [_, _, _, budget, deadline] = plan.tasks[row];
+            let [_, _, _, budget, deadline, ..] = plan.tasks[row];
             let other = if rng.chance(50) && budget < deadline {
                 budget + 1
             } else {
@@ -354,9 +354,9 @@ pub fn budget(plan: &mut Plan, rng: &mut Rng) -> Option<()> {
 }
 
 /// Appends a task, so that the rows that name tasks stay right.
-fn insert_task(plan: &mut Plan, task: [u32; 5], rng: &mut Rng) -> Option<()> {
+fn insert_task<const N: usize>(plan: &mut Plan, words: [u32; N], rng: &mut Rng) -> Option<()> {
     let mut last = Vec::new();
-    insert(&mut last, TASK, task, rng)?;
+    insert(&mut last, TASK, words, rng)?;
     plan.tasks.extend(last);
     (plan.tasks.len() <= 256).then_some(())
 }
@@ -366,15 +366,15 @@ fn many_jobs(plan: &mut Plan, rng: &mut Rng) -> Option<()> {
     if !rng.chance(20) {
         return None;
     }
-    let [_, d, v] = plan.cores[0];
+    let [_, d, v, ..] = plan.cores[0];
     let length = d + 1;
     *plan = Plan {
         cycle: 1_000_000,
         precision: plan.precision,
-        cores: vec![[0, d, v]],
-        vcpus: vec![[0]],
-        tasks: vec![[0, 1, length, 1, length]; 256],
-        windows: vec![[0, 0, 1_000_000]],
+        cores: vec![row_of([0, d, v])],
+        vcpus: vec![row_of([0])],
+        tasks: vec![row_of([0, 1, length, 1, length]); 256],
+        windows: vec![row_of([0, 0, 1_000_000])],
         ..Plan::default()
     };
     while !plan.cycle.is_multiple_of(length) {
@@ -382,7 +382,8 @@ fn many_jobs(plan: &mut Plan, rng: &mut Rng) -> Option<()> {
     }
     plan.windows[0][2] = plan.cycle;
     for k in v.div_ceil(length)..rng.within(0..=2_000) {
-        plan.pieces.push([rng.within(0..=1), k, k * length, length]);
+        let piece = [rng.within(0..=1), k, k * length, length];
+        plan.pieces.push(row_of(piece));
     }
     Some(())
 }

@@ -12,17 +12,17 @@ mod order;
 mod streams;
 
 use crate::generate;
-use crate::histogram::questions;
-use crate::image::{Plan, ROW_BOUNDS, WINDOW};
+use crate::image::{row_of, Piece, Plan, Window, ROW_BOUNDS, WINDOW};
+use crate::questions::QUESTIONS;
 use crate::rng::Rng;
 
 /// An image made of an accepted plan by one change, sometimes by two.
 pub fn mutate(plan: &Plan, rng: &mut Rng) -> Vec<u8> {
     let mut plan = plan.clone();
-    let first = match rng.below(31) as u32 {
+    let first = match rng.below(QUESTIONS.len() + 3) {
         0 => Change::Harmless,
-        chosen @ 1..=3 => Change::Bytes(chosen),
-        4..=28 => Change::Rows(any_of_rows(rng)),
+        turn @ 1..=3 => Change::Bytes(QUESTIONS[turn - 1]),
+        turn if turn <= QUESTIONS.len() => Change::Rows(any_of_rows(rng)),
         _ => Change::Scattered,
     };
     if let Change::Rows(question) = first {
@@ -56,8 +56,7 @@ enum Change {
 
 /// Any of the questions that are asked of rows, or of H and P.
 fn any_of_rows(rng: &mut Rng) -> u32 {
-    let of_rows: Vec<u32> = questions().skip(3).collect();
-    rng.pick(&of_rows)
+    rng.pick(&QUESTIONS[3..])
 }
 
 /// An image made of a plan of its own, mostly one with rows in every table.
@@ -217,19 +216,24 @@ fn set<const W: usize>(
     Some(())
 }
 
-/// Puts one more row into a table that has room for it.
-fn insert<const W: usize>(
+/// Puts one more row, of these words, into a table that has room for it.
+fn insert<const N: usize, const W: usize>(
     rows: &mut Vec<[u32; W]>,
     table: u32,
-    row: [u32; W],
+    words: [u32; N],
     rng: &mut Rng,
 ) -> Option<()> {
     let most = ROW_BOUNDS[table as usize - 1].1 as usize;
     if rows.len() >= most {
         return None;
     }
-    rows.insert(rng.below(rows.len() + 1), row);
+    rows.insert(rng.below(rows.len() + 1), row_of(words));
     Some(())
+}
+
+/// Gives a window another start and length.
+fn move_to(window: &mut Window, start: i64, length: i64) {
+    (window[1], window[2]) = (word(start), word(length));
 }
 
 /// Two different rows that serve together.
@@ -249,7 +253,7 @@ fn any_pair(
 
 /// First start and last end of a job that has pieces.
 fn job_span(plan: &Plan, task: u32, k: u32) -> Option<(i64, i64)> {
-    let of_job = |piece: &&[u32; 4]| piece[0] == task && piece[1] == k;
+    let of_job = |piece: &&Piece| piece[0] == task && piece[1] == k;
     let pieces = || plan.pieces.iter().filter(of_job);
     let first = pieces().map(|piece| wide(piece[2])).min()?;
     let last = pieces()

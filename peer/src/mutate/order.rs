@@ -26,13 +26,12 @@ pub fn order(plan: &mut Plan, rng: &mut Rng) -> Option<()> {
 
 fn in_table(plan: &mut Plan, table: usize, rng: &mut Rng) -> Option<()> {
     let [_, vcpus, tasks, _, _, links, streams, ..] = plan.counts();
-    let any = usize::MAX;
     match table {
         0 => {
             let rows = Rows {
                 table: WINDOW,
                 start: WINDOW_START,
-                bounds: [vcpus, any, any],
+                bounds: bounds([(0, vcpus)]),
             };
             rows.disorder(&mut plan.windows, rng)
         }
@@ -40,7 +39,7 @@ fn in_table(plan: &mut Plan, table: usize, rng: &mut Rng) -> Option<()> {
             let rows = Rows {
                 table: PIECE,
                 start: PIECE_START,
-                bounds: [tasks, any, any, any],
+                bounds: bounds([(0, tasks)]),
             };
             rows.disorder(&mut plan.pieces, rng)
         }
@@ -48,7 +47,7 @@ fn in_table(plan: &mut Plan, table: usize, rng: &mut Rng) -> Option<()> {
             let rows = Rows {
                 table: FRAME,
                 start: FRAME_START,
-                bounds: [streams, any, any, links, any],
+                bounds: bounds([(0, streams), (3, links)]),
             };
             rows.disorder(&mut plan.frames, rng)
         }
@@ -62,6 +61,15 @@ struct Rows<const W: usize> {
     start: usize,
     /// A bound of each word that is a row number: the rows it may name.
     bounds: [usize; W],
+}
+
+/// The bounds of these words, and none of all others.
+fn bounds<const N: usize, const W: usize>(given: [(usize, usize); N]) -> [usize; W] {
+    let mut bounds = [usize::MAX; W];
+    for (column, rows) in given {
+        bounds[column] = rows;
+    }
+    bounds
 }
 
 impl<const W: usize> Rows<W> {

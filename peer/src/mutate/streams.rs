@@ -1,7 +1,7 @@
 //! Changes aimed at questions 14 to 21.
 
 use super::{any_row, any_where, insert, job_span, wide, word};
-use crate::image::{Link, Plan, FRAME, LINK, ROW_BOUNDS};
+use crate::image::{row_of, Frame, Plan, FRAME, LINK, ROW_BOUNDS};
 use crate::rng::Rng;
 
 /// Any two tasks that serve.
@@ -33,15 +33,15 @@ pub fn ends(plan: &mut Plan, rng: &mut Rng) -> Option<()> {
 }
 
 /// Appends a stream, so that the rows that name streams stay right.
-fn insert_stream(plan: &mut Plan, stream: [u32; 5]) -> Option<()> {
-    plan.streams.push(stream);
+fn insert_stream<const N: usize>(plan: &mut Plan, words: [u32; N]) -> Option<()> {
+    plan.streams.push(row_of(words));
     (plan.streams.len() <= 64).then_some(())
 }
 
 pub fn frame_in_job(plan: &mut Plan, rng: &mut Rng) -> Option<()> {
     let row = any_row(&plan.frames, rng)?;
-    let [stream, k, _, link, _] = plan.frames[row];
-    let [sender, _, _, hops, _] = plan.streams[stream as usize];
+    let [stream, k, _, link, ..] = plan.frames[row];
+    let [sender, _, _, hops, ..] = plan.streams[stream as usize];
     let period = wide(plan.period(sender));
     let jobs = plan.jobs(sender);
     let due = (wide(k) + 1) * period;
@@ -88,14 +88,14 @@ fn ticks_on(plan: &Plan, stream: u32, link: u32) -> i64 {
 
 /// The ticks that a frame takes.
 fn ticks(plan: &Plan, frame: usize) -> i64 {
-    let [stream, _, _, link, _] = plan.frames[frame];
+    let [stream, _, _, link, ..] = plan.frames[frame];
     ticks_on(plan, stream, link)
 }
 
 /// What one of many readings takes for the ticks of a frame: rounded down,
 /// without what goes around the payload, or at the rate of another hop.
 fn read_ticks(plan: &Plan, frame: usize, rng: &mut Rng) -> i64 {
-    let [stream, k, hop, link, _] = plan.frames[frame];
+    let [stream, k, hop, link, ..] = plan.frames[frame];
     let bits = bits(plan, stream);
     let near = [hop.wrapping_sub(1), hop.wrapping_add(1), 0];
     let at_rate_of = |hop: u32| {
@@ -112,7 +112,7 @@ fn read_ticks(plan: &Plan, frame: usize, rng: &mut Rng) -> i64 {
 /// Makes a frame take one tick more, by the fewest bytes or the least change
 /// of the rate that do.
 fn lengthen(plan: &mut Plan, frame: usize, rng: &mut Rng) -> Option<()> {
-    let [stream, _, _, link, _] = plan.frames[frame];
+    let [stream, _, _, link, ..] = plan.frames[frame];
     let own = ticks(plan, frame);
     if rng.chance(50) {
         let filled = own * wide(plan.links[link as usize][3]) / 8;
@@ -144,7 +144,7 @@ pub fn frame_count(plan: &mut Plan, rng: &mut Rng) -> Option<()> {
         3 if hops < 8 => plan.streams[frame[0] as usize][3] = hops + 1,
         _ => {
             let other = any_row(&plan.frames, rng)?;
-            let [_, k, _, _, start] = plan.frames[other];
+            let [_, k, _, _, start, ..] = plan.frames[other];
             (plan.frames[row][1], plan.frames[row][4]) = (k, start);
         }
     }
@@ -153,8 +153,8 @@ pub fn frame_count(plan: &mut Plan, rng: &mut Rng) -> Option<()> {
 
 pub fn route(plan: &mut Plan, rng: &mut Rng) -> Option<()> {
     let row = any_row(&plan.frames, rng)?;
-    let [stream, _, _, link, _] = plan.frames[row];
-    let [from, to, delay, rate] = plan.links[link as usize];
+    let [stream, _, _, link, ..] = plan.frames[row];
+    let [from, to, delay, rate, ..] = plan.links[link as usize];
     match rng.below(6) {
         0 => {
             let differs = |other: usize| plan.links[other][..2] != plan.links[link as usize][..2];
@@ -163,7 +163,7 @@ pub fn route(plan: &mut Plan, rng: &mut Rng) -> Option<()> {
             Some(())
         }
         1 => {
-            plan.links[link as usize] = [to, from, delay, rate];
+            plan.links[link as usize].swap(0, 1);
             Some(())
         }
         2 => {
@@ -192,7 +192,7 @@ fn other_node(from: u32, to: u32) -> u32 {
 
 /// The row of the frame of a stream, job and hop.
 fn frame_row(plan: &Plan, stream: u32, k: u32, hop: u32) -> Option<usize> {
-    let is_it = |frame: &[u32; 5]| frame[..3] == [stream, k, hop];
+    let is_it = |frame: &Frame| frame[..3] == [stream, k, hop];
     plan.frames.iter().position(is_it)
 }
 
@@ -203,14 +203,14 @@ fn arrival(plan: &Plan, frame: usize) -> i64 {
 
 /// The same, if the frame took so many ticks.
 fn arrival_after(plan: &Plan, frame: usize, ticks: i64) -> i64 {
-    let [_, _, _, link, start] = plan.frames[frame];
+    let [_, _, _, link, start, ..] = plan.frames[frame];
     wide(start) + ticks + wide(plan.links[link as usize][2]) + wide(plan.precision)
 }
 
 pub fn hop_order(plan: &mut Plan, rng: &mut Rng) -> Option<()> {
     let later = |row: usize| plan.frames[row][2] > 0;
     let row = any_where(plan.frames.len(), later, rng)?;
-    let [stream, k, hop, _, start] = plan.frames[row];
+    let [stream, k, hop, _, start, ..] = plan.frames[row];
     let previous = frame_row(plan, stream, k, hop - 1)?;
     let bound = arrival(plan, previous);
     let spare = word(wide(start) - bound);
@@ -270,10 +270,10 @@ pub fn frame_clash(plan: &mut Plan, rng: &mut Rng) -> Option<()> {
 /// before and after leave it room. The other's link has the same ends.
 fn move_onto_frame(plan: &mut Plan, rng: &mut Rng) -> Option<()> {
     let row = any_row(&plan.frames, rng)?;
-    let [stream, k, _, link, _] = plan.frames[row];
+    let [stream, k, _, link, ..] = plan.frames[row];
     let ends = |link: u32| &plan.links[link as usize][..2];
     let starts = |other: usize| {
-        let [_, _, _, link, start] = plan.frames[other];
+        let [_, _, _, link, start, ..] = plan.frames[other];
         let room = frame_room(plan, row, link);
         let own = ticks_on(plan, stream, link);
         let first = room.0.max(wide(start) - own + 1);
@@ -316,10 +316,10 @@ fn frame_room(plan: &Plan, row: usize, link: u32) -> (i64, i64) {
 fn second_stream(plan: &mut Plan, stream: usize, late: u32, rng: &mut Rng) -> Option<()> {
     let second = plan.streams.len() as u32;
     insert_stream(plan, plan.streams[stream])?;
-    let of_stream = |frame: &&[u32; 5]| frame[0] as usize == stream;
-    let frames: Vec<[u32; 5]> = plan.frames.iter().filter(of_stream).copied().collect();
-    for [_, k, hop, link, start] in frames {
-        let frame = [second, k, hop, link, start.wrapping_add(late)];
+    let of_stream = |frame: &&Frame| frame[0] as usize == stream;
+    let frames: Vec<Frame> = plan.frames.iter().filter(of_stream).copied().collect();
+    for mut frame in frames {
+        (frame[0], frame[4]) = (second, frame[4].wrapping_add(late));
         insert(&mut plan.frames, FRAME, frame, rng)?;
     }
     Some(())
@@ -327,7 +327,7 @@ fn second_stream(plan: &mut Plan, stream: usize, late: u32, rng: &mut Rng) -> Op
 
 pub fn message_order(plan: &mut Plan, rng: &mut Rng) -> Option<()> {
     let stream = any_row(&plan.streams, rng)?;
-    let [sender, receiver, _, hops, _] = plan.streams[stream];
+    let [sender, receiver, _, hops, ..] = plan.streams[stream];
     let k = rng.below(plan.jobs(sender).max(1) as usize) as u32;
     let (sender_start, sender_end) = job_span(plan, sender, k)?;
     let (receiver_start, _) = job_span(plan, receiver, k)?;
@@ -372,9 +372,9 @@ fn own_link(plan: &mut Plan, frame: usize) -> Option<()> {
     move_to_new_link(plan, frame, beside)
 }
 
-fn move_to_new_link(plan: &mut Plan, frame: usize, link: Link) -> Option<()> {
+fn move_to_new_link<const N: usize>(plan: &mut Plan, frame: usize, words: [u32; N]) -> Option<()> {
     plan.frames[frame][3] = plan.links.len() as u32;
-    plan.links.push(link);
+    plan.links.push(row_of(words));
     (plan.links.len() <= ROW_BOUNDS[LINK as usize - 1].1 as usize).then_some(())
 }
 

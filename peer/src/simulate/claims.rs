@@ -4,16 +4,16 @@
 use super::clocks::{Clocks, TrueTime};
 use super::reading::{JobId, Reading, Tick};
 use super::report::{Claim, Fact, Report, Violation};
-use crate::image::Plan;
+use crate::image::{Buffer, Frame, Plan, Window};
 
 /// The plan without the times of its pieces and frames: these are to be read
 /// off what is shown.
 pub fn without_times(plan: &Plan) -> Plan {
     let mut plan = plan.clone();
-    for [_, _, start, length] in &mut plan.pieces {
+    for [_, _, start, length, ..] in &mut plan.pieces {
         (*start, *length) = (0, 0);
     }
-    for [_, _, _, _, start] in &mut plan.frames {
+    for [_, _, _, _, start, ..] in &mut plan.frames {
         *start = 0;
     }
     plan
@@ -52,11 +52,11 @@ fn ask_job(plan: &Plan, reading: &Reading, id: JobId, report: &mut Report) {
 
 /// The claims that a job breaks by working in a tick.
 fn broken_by_work(plan: &Plan, id: JobId, tick: Tick) -> Vec<Claim> {
-    let [vcpu, _, period, _, deadline] = plan.tasks[id.task as usize];
+    let [vcpu, _, period, _, deadline, ..] = plan.tasks[id.task as usize];
     let at = tick.index as u32 % plan.cycle;
     let release = id.k * period;
     let in_window = plan.windows.iter().any(|window| {
-        let &[owner, start, length] = window;
+        let &[owner, start, length, ..] = window;
         let is_inside = (start..start + length).contains(&at);
         owner == vcpu && is_inside && !is_switching(plan, window, at)
     });
@@ -76,10 +76,10 @@ fn broken_by_work(plan: &Plan, id: JobId, tick: Tick) -> Vec<Claim> {
 /// Whether a tick of a window goes to the VCPU switch: it is one of the first
 /// v, and the VCPU had not kept the core until the window began. In a cycle's
 /// first tick nobody has kept it.
-fn is_switching(plan: &Plan, &[vcpu, start, _]: &[u32; 3], at: u32) -> bool {
+fn is_switching(plan: &Plan, &[vcpu, start, ..]: &Window, at: u32) -> bool {
     let mut own = plan.windows.iter().filter(|window| window[0] == vcpu);
     // The window itself is not empty, and so does not end where it begins.
-    let is_kept = start != 0 && own.any(|&[_, begin, length]| begin + length == start);
+    let is_kept = start != 0 && own.any(|&[_, begin, length, ..]| begin + length == start);
     !is_kept && at - start < plan.vcpu_switch(vcpu)
 }
 
@@ -157,7 +157,7 @@ impl<'a> Messages<'a> {
 
     /// The true time at which a message arrives, if every frame counts.
     fn arrival(&self, reading: &Reading, message: Message) -> Option<i128> {
-        let [_, _, _, hops, payload] = self.plan.streams[message.row];
+        let [_, _, _, hops, payload, ..] = self.plan.streams[message.row];
         let JobId { cycle, k, .. } = message.sender;
         let mut ready = self.time.end(reading.end(message.sender)?);
         for hop in 0..hops {
@@ -166,7 +166,7 @@ impl<'a> Messages<'a> {
             if self.time.begin(*sent.first()?) < ready {
                 return None;
             }
-            let [_, _, delay, rate] = self.plan.links[self.plan.frames[frame][3] as usize];
+            let [_, _, delay, rate, ..] = self.plan.links[self.plan.frames[frame][3] as usize];
             let last = sent.get(last_tick(payload, rate))?;
             ready = self.time.end(*last) + i128::from(delay);
         }
@@ -174,7 +174,7 @@ impl<'a> Messages<'a> {
     }
 
     fn frame(&self, stream: usize, k: u32, hop: u32) -> Option<usize> {
-        let is_it = |frame: &[u32; 5]| frame[..3] == [stream as u32, k, hop];
+        let is_it = |frame: &Frame| frame[..3] == [stream as u32, k, hop];
         self.plan.frames.iter().position(is_it)
     }
 
@@ -208,7 +208,7 @@ impl<'a> Messages<'a> {
     /// limit, in every job of every cycle. A chain of tasks that there are
     /// not, or that have not equally many jobs, is nothing to be asked of.
     fn ask_chain(&self, reading: &Reading, row: usize, report: &mut Report) {
-        let [first, last, limit] = self.plan.chains[row];
+        let [first, last, limit, ..] = self.plan.chains[row];
         let exists = |task: u32| (task as usize) < self.plan.tasks.len();
         if !exists(first) || !exists(last) || self.plan.jobs(first) != self.plan.jobs(last) {
             return;
@@ -280,7 +280,7 @@ fn last_tick(payload: u32, rate: u32) -> usize {
 pub fn ask_holds(plan: &Plan, reading: &Reading, report: &mut Report) {
     for row in 0..plan.buffers.len() {
         let others = other_tasks(plan, row);
-        let [_, writer, reader] = plan.buffers[row];
+        let [_, writer, reader, ..] = plan.buffers[row];
         for writer in reading.ids(writer, reading.cycles()) {
             let reader = JobId {
                 task: reader,
@@ -330,10 +330,10 @@ fn ask_hold(
 /// The tasks of a row's buffer besides its own two. A buffer is a number on
 /// one node.
 fn other_tasks(plan: &Plan, row: usize) -> Vec<u32> {
-    let buffer = |row: &[u32; 3]| (row[0], plan.node_of_task(row[1]));
+    let buffer = |row: &Buffer| (row[0], plan.node_of_task(row[1]));
     let own = plan.buffers[row];
     let rows = plan.buffers.iter();
     let of_buffer = rows.filter(|other| buffer(other) == buffer(&own));
-    let tasks = of_buffer.flat_map(|&[_, writer, reader]| [writer, reader]);
-    tasks.filter(|task| !own[1..].contains(task)).collect()
+    let tasks = of_buffer.flat_map(|&[_, writer, reader, ..]| [writer, reader]);
+    tasks.filter(|task| !own[1..3].contains(task)).collect()
 }

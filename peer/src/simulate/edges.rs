@@ -2,7 +2,7 @@
 //! accepted, the other refused.
 
 use crate::check::check;
-use crate::image::Plan;
+use crate::image::{Frame, Plan};
 use crate::rng::Rng;
 
 /// A time of the plan that can be turned tick by tick.
@@ -132,6 +132,6 @@ impl Dial {
 
 /// The ticks that each frame takes.
 fn frame_lengths(plan: &Plan) -> Vec<u32> {
-    let ticks = |&[stream, _, _, link, _]: &[u32; 5]| plan.frame_ticks(stream, link);
+    let ticks = |&[stream, _, _, link, ..]: &Frame| plan.frame_ticks(stream, link);
     plan.frames.iter().map(ticks).collect()
 }

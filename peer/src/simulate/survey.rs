@@ -4,7 +4,7 @@ use super::drive::Case;
 use super::{edges, run_unchecked, unchecked, Claim, Clocks, Edge, Failure, Settings};
 use crate::check::check;
 use crate::generate;
-use crate::image::Plan;
+use crate::image::{Buffer, Plan};
 use crate::jobs::Jobs;
 use crate::mutate::aim;
 use crate::rng::Rng;
@@ -143,19 +143,19 @@ pub fn only_shared_tasks(plan: &Plan) -> bool {
     let Ok(jobs) = Jobs::of(plan) else {
         return false;
     };
-    let clash = |a: &[u32; 3], b: &[u32; 3]| {
+    let clash = |a: &Buffer, b: &Buffer| {
         let (a, b) = (holds(&jobs, a), holds(&jobs, b));
         a.iter().any(|a| b.iter().any(|b| a.0 < b.1 && b.0 < a.1))
     };
-    let buffer = |row: &[u32; 3]| (row[0], plan.node_of_task(row[1]));
-    let shared = |a: &[u32; 3], b: &[u32; 3]| a[1..] == b[1..] || a[2] == b[1] || b[2] == a[1];
+    let buffer = |row: &Buffer| (row[0], plan.node_of_task(row[1]));
+    let shared = |a: &Buffer, b: &Buffer| a[1..3] == b[1..3] || a[2] == b[1] || b[2] == a[1];
     let rows = plan.buffers.iter().enumerate();
     let mut pairs = rows.flat_map(|(row, a)| plan.buffers[..row].iter().map(move |b| (a, b)));
     pairs.all(|(a, b)| buffer(a) != buffer(b) || !clash(a, b) || shared(a, b))
 }
 
 /// First start and last end of the holds of a row.
-fn holds(jobs: &Jobs, &[_, writer, reader]: &[u32; 3]) -> Vec<(u32, u32)> {
+fn holds(jobs: &Jobs, &[_, writer, reader, ..]: &Buffer) -> Vec<(u32, u32)> {
     let pairs = jobs.of_task(writer).iter().zip(jobs.of_task(reader));
     let hold = pairs.map(|(writer, reader)| (writer.first_start, reader.last_end));
     hold.collect()
@@ -170,7 +170,7 @@ pub fn only_one_clock(plan: &Plan) -> bool {
     let Ok(jobs) = Jobs::of(plan) else {
         return false;
     };
-    plan.chains.iter().all(|&[first, last, limit]| {
+    plan.chains.iter().all(|&[first, last, limit, ..]| {
         let one_node = plan.node_of_task(first) == plan.node_of_task(last);
         let limit = match limit {
             0 => plan.period(first),

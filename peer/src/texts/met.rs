@@ -2,8 +2,9 @@
 
 use std::fmt;
 
-use crate::histogram::{questions, Histogram};
+use crate::histogram::Histogram;
 use crate::image::{CORE, FRAME, LINK, PIECE, ROW_BOUNDS, WINDOW};
+use crate::questions::QUESTIONS;
 
 /// What stood in the texts.
 #[derive(Clone, Debug, Default)]
@@ -88,7 +89,8 @@ impl Met {
 
     /// What the texts should have had and had not.
     pub fn missing(&self) -> Vec<String> {
-        let unasked = questions().filter(|number| self.answers.of(*number) == 0);
+        let asked = QUESTIONS.iter();
+        let unasked = asked.filter(|number| self.answers.of(**number) == 0);
         let refused = self.refused_rows.lacking(HIGHEST_ROW);
         let shown = self.shown_rows.lacking(HIGHEST_ROW);
         let ticks = self.first_ticks.lacking(HIGHEST_TICK);

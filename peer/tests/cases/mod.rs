@@ -3,17 +3,18 @@
 // Each test file takes what it needs.
 #![allow(dead_code)]
 
+use peer::image::{row_of, rows_of};
 use peer::Plan;
 
 pub fn case_a() -> Plan {
     Plan {
         cycle: 10,
         precision: 0,
-        cores: vec![[0, 1, 2]],
-        vcpus: vec![[0]],
-        tasks: vec![[0, 1, 10, 3, 8]],
-        windows: vec![[0, 0, 10]],
-        pieces: vec![[0, 0, 2, 4]],
+        cores: rows_of(&[[0, 1, 2]]),
+        vcpus: rows_of(&[[0]]),
+        tasks: rows_of(&[[0, 1, 10, 3, 8]]),
+        windows: rows_of(&[[0, 0, 10]]),
+        pieces: rows_of(&[[0, 0, 2, 4]]),
         ..Plan::default()
     }
 }
@@ -22,14 +23,14 @@ pub fn case_b() -> Plan {
     Plan {
         cycle: 20,
         precision: 1,
-        cores: vec![[0, 1, 2], [1, 1, 2]],
-        vcpus: vec![[0], [1]],
-        tasks: vec![[0, 3, 20, 3, 20], [1, 3, 20, 3, 20]],
-        windows: vec![[0, 0, 20], [1, 0, 20]],
-        pieces: vec![[0, 0, 2, 4], [1, 0, 10, 4]],
-        links: vec![[0, 1, 1, 352]],
-        streams: vec![[0, 1, 13, 1, 46]],
-        frames: vec![[0, 0, 0, 0, 6]],
+        cores: rows_of(&[[0, 1, 2], [1, 1, 2]]),
+        vcpus: rows_of(&[[0], [1]]),
+        tasks: rows_of(&[[0, 3, 20, 3, 20], [1, 3, 20, 3, 20]]),
+        windows: rows_of(&[[0, 0, 20], [1, 0, 20]]),
+        pieces: rows_of(&[[0, 0, 2, 4], [1, 0, 10, 4]]),
+        links: rows_of(&[[0, 1, 1, 352]]),
+        streams: rows_of(&[[0, 1, 13, 1, 46]]),
+        frames: rows_of(&[[0, 0, 0, 0, 6]]),
         ..Plan::default()
     }
 }
@@ -38,10 +39,10 @@ pub fn case_b() -> Plan {
 /// a chain from the first to the third that is exactly met: 14 + 4 - 2 + P.
 pub fn case_chain() -> Plan {
     let mut plan = case_b();
-    plan.tasks.push([1, 3, 20, 3, 20]);
-    plan.pieces.push([2, 0, 14, 4]);
-    plan.buffers = vec![[5, 1, 2]];
-    plan.chains = vec![[0, 2, 17]];
+    plan.tasks.push(row_of([1, 3, 20, 3, 20]));
+    plan.pieces.push(row_of([2, 0, 14, 4]));
+    plan.buffers = rows_of(&[[5, 1, 2]]);
+    plan.chains = rows_of(&[[0, 2, 17]]);
     plan
 }
 
@@ -50,14 +51,14 @@ pub fn case_chain() -> Plan {
 pub fn two_rows() -> Plan {
     Plan {
         cycle: 10,
-        cores: vec![[3, 0, 0]; 2],
-        vcpus: vec![[0], [1]],
+        cores: rows_of(&[[3, 0, 0]; 2]),
+        vcpus: rows_of(&[[0], [1]]),
         tasks: [[0, 1], [0, 2], [1, 1], [1, 1]]
-            .map(|[vcpu, budget]| [vcpu, 3, 10, budget, 10])
+            .map(|[vcpu, budget]| row_of([vcpu, 3, 10, budget, 10]))
             .to_vec(),
-        windows: vec![[0, 0, 10], [1, 0, 10]],
-        pieces: vec![[0, 0, 0, 1], [1, 0, 4, 2], [2, 0, 6, 1], [3, 0, 8, 1]],
-        buffers: vec![[7, 0, 1], [7, 2, 3]],
+        windows: rows_of(&[[0, 0, 10], [1, 0, 10]]),
+        pieces: rows_of(&[[0, 0, 0, 1], [1, 0, 4, 2], [2, 0, 6, 1], [3, 0, 8, 1]]),
+        buffers: rows_of(&[[7, 0, 1], [7, 2, 3]]),
         ..Plan::default()
     }
 }
@@ -67,11 +68,11 @@ pub fn two_rows() -> Plan {
 pub fn two_hops(rates: [u32; 2], second_start: u32) -> Plan {
     let mut plan = case_b();
     plan.cycle = 60;
-    plan.tasks = vec![[0, 3, 60, 3, 60], [1, 3, 60, 3, 60]];
-    plan.windows = vec![[0, 0, 60], [1, 0, 60]];
-    plan.links = vec![[0, 2, 3, rates[0]], [2, 1, 5, rates[1]]];
-    plan.streams = vec![[0, 1, 0, 2, 46]];
-    plan.frames = vec![[0, 0, 0, 0, 6], [0, 0, 1, 1, second_start]];
+    plan.tasks = rows_of(&[[0, 3, 60, 3, 60], [1, 3, 60, 3, 60]]);
+    plan.windows = rows_of(&[[0, 0, 60], [1, 0, 60]]);
+    plan.links = rows_of(&[[0, 2, 3, rates[0]], [2, 1, 5, rates[1]]]);
+    plan.streams = rows_of(&[[0, 1, 0, 2, 46]]);
+    plan.frames = rows_of(&[[0, 0, 0, 0, 6], [0, 0, 1, 1, second_start]]);
     plan.pieces[1][2] = 40;
     plan
 }

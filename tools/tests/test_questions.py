@@ -1,0 +1,36 @@
+"""The list of questions: each has an example, and the README's list is the same, in the order asked."""
+import re
+import unittest
+
+from support import EXAMPLES, ROOT
+
+from plans.answers import parse
+from plans.questions import QUESTIONS
+
+NAMED = re.compile(r"q(\d\d)-")
+
+
+def listed_in_readme():
+    """The numbers of the README's sentence, spans such as '6 to 24' number by number."""
+    words = " ".join((ROOT / "README.md").read_text().split())
+    (sentence,) = re.findall(r"The check's questions, in the order asked: ([^.]*)\.", words)
+    for part in sentence.split(", "):
+        first, *last = part.split(" to ")
+        yield from range(int(first), int(last[0] if last else first) + 1)
+
+
+class Questions(unittest.TestCase):
+    def test_the_readme_lists_them_in_order(self):
+        self.assertEqual(list(listed_in_readme()), list(QUESTIONS))
+
+    def test_each_has_an_example_of_its_name(self):
+        named = {int(NAMED.match(path.name)[1]) for path in EXAMPLES.glob("q*.txt")}
+        self.assertEqual(named, set(QUESTIONS))
+
+    def test_examples_are_refused_by_the_question_of_their_name(self):
+        for path in EXAMPLES.glob("q*.lines"):
+            self.assertEqual(parse(path.read_text().splitlines()[0]).number, int(NAMED.match(path.name)[1]), path.name)
+
+
+if __name__ == "__main__":
+    unittest.main()
