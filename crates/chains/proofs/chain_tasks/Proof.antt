@@ -1,3 +1,4 @@
+use mathlib.Core.Path.{refl}
 use Rattle.plan.specs.Questions.{chainTasks}
 use borrow.Author.Needs.{needs}
 use Rattle.chains.proofs.chain_tasks.Statement.{statement}
@@ -18,7 +19,7 @@ rows-of-requires c κs = search needs
 -- src/lib.rt:16:1
 returns : tie.Need-returns
 unfolding chainTasks
-returns c = cc
+returns c = rw (c .before .before .before .rows-of .ensures, c .before .before .before .before .chain-at .ensures) refl
 
 pub chain-tasks-spec : {M : Type 1} → statement M
 chain-tasks-spec = tie.close (tie.spec chain-at-requires rows-of-requires returns)

@@ -1,3 +1,4 @@
+use mathlib.Core.Path.{refl}
 use Rattle.plan.specs.declared.Table.the-variants.{Pieces}
 use Rattle.plan.specs.Questions.{inside}
 use borrow.Author.Needs.{needs}
@@ -55,7 +56,7 @@ window-end-requires c κs = let p = c .before .before .before .before .before .b
 -- src/lib.rt:24:1
 returns : tie.Need-returns
 unfolding inside
-returns c = cc
+returns c = rw (c .window-end .ensures, c .before .piece-end .ensures, c .before .before .before .charge-at .ensures, c .before .before .before .before .before .before .before .task-at .ensures, c .before .before .before .before .before .before .before .before .window-at .ensures, c .before .before .before .before .before .before .before .before .before .piece-at .ensures) refl
 
 pub lies-inside-spec : {M : Type 1} → statement M
 lies-inside-spec =

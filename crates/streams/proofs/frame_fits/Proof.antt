@@ -1,3 +1,4 @@
+use mathlib.Core.Path.{refl}
 use native.Mathlib.Omega.{arith}
 use Rattle.plan.specs.Questions.{frameFits}
 use Rattle.plan.specs.declared.Table.the-variants.{Streams, Frames}
@@ -44,7 +45,7 @@ mul-ends c = record { fits = product-below (omega (arith, c .before .before .bef
 
 returns : tie.Need-returns
 unfolding frameFits
-returns c = cc
+returns c = rw (c .before .frame-end .ensures, c .before .before .before .before .before .before .before .jobs-of .ensures, c .before .before .before .before .before .before .before .before .stream-period .ensures, c .before .before .before .before .before .before .before .before .before .stream-at .ensures, c .before .before .before .before .before .before .before .before .before .before .frame-at .ensures) refl
 
 pub frame-fits-spec : {M : Type 1} → statement M
 frame-fits-spec =

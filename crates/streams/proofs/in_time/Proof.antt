@@ -1,3 +1,4 @@
+use mathlib.Core.Path.{refl}
 use Rattle.plan.specs.declared.Table.the-variants.{Streams}
 use Rattle.plan.specs.Questions.{inTime}
 use Rattle.streams.proofs.Framing.{receiver-job}
@@ -40,7 +41,7 @@ add-result c = search needs
 
 returns : tie.Need-returns
 unfolding inTime
-returns c = cc
+returns c = rw (c .limit-of .ensures, c .before .first-start .ensures, c .before .before .precision-ticks .ensures, c .before .before .before .last-end .ensures, c .before .before .before .before .stream-at .ensures) refl
 
 pub in-time-spec : {M : Type 1} → statement M
 in-time-spec =

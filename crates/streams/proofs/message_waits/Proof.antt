@@ -1,3 +1,4 @@
+use mathlib.Core.Path.{refl}
 use Prim.Native.Nat.{_-_}
 use native.Mathlib.Omega.{arith}
 use Rattle.plan.specs.declared.Table.the-variants.{Streams}
@@ -38,7 +39,7 @@ cast-read c = search needs
 
 returns : tie.Need-returns
 unfolding messageWaits
-returns c = cc
+returns c = rw (c .first-start .ensures, c .before .across-at .ensures, c .before .before .before .frame-at .ensures, c .before .before .before .before .last-end .ensures, c .before .before .before .before .before .frame-of2 .ensures, c .before .before .before .before .before .before .before .frame-of .ensures, c .before .before .before .before .before .before .before .before .stream-at .ensures) refl
 
 pub message-waits-spec : {M : Type 1} → statement M
 message-waits-spec =

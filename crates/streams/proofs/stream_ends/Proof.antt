@@ -1,3 +1,4 @@
+use mathlib.Core.Path.{refl}
 use Rattle.plan.specs.Questions.{streamEnds}
 use Rattle.plan.specs.declared.Table.the-variants.{Streams}
 use borrow.Author.Needs.{needs}
@@ -21,7 +22,7 @@ node-of-requires-2 c κs = let p = c .before .before .before .before .before .be
 
 returns : tie.Need-returns
 unfolding streamEnds
-returns c = cc
+returns c = rw (c .node-of2 .ensures, c .before .node-of .ensures, c .before .before .before .before .task-at2 .ensures, c .before .before .before .before .before .task-at .ensures, c .before .before .before .before .before .before .stream-at .ensures) refl
 
 pub stream-ends-spec : {M : Type 1} → statement M
 stream-ends-spec =

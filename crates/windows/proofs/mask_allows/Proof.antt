@@ -1,3 +1,4 @@
+use mathlib.Core.Path.{refl}
 use native.Mathlib.Omega.{arith}
 use Rattle.plan.specs.declared.Table.the-variants.{Cores}
 use Rattle.plan.specs.Image.{shape}
@@ -27,7 +28,7 @@ shr-result c = let a = c .before .before .before .before .args in let p = c .bef
 -- src/lib.rt:60:1
 returns : tie.Need-returns
 unfolding maskAllows
-returns c = cc
+returns c = rw (c .before .core-of .ensures, c .before .before .task-at .ensures) refl
 
 pub mask-allows-spec : {M : Type 1} → statement M
 mask-allows-spec = tie.close (tie.spec task-at-requires core-of-requires shr-result returns)

@@ -1,3 +1,4 @@
+use mathlib.Core.Path.{refl}
 use Rattle.plan.specs.declared.Table.the-variants.{Pieces}
 use Rattle.plan.specs.Questions.{pieceFits}
 use borrow.Author.Needs.{needs}
@@ -43,7 +44,7 @@ due-of-requires c κs = let p = c .before .before .before .before .before .befor
 -- src/lib.rt:70:1
 returns : tie.Need-returns
 unfolding pieceFits
-returns c = cc
+returns c = rw (c .due-of .ensures, c .before .piece-end .ensures, c .before .before .before .release-of .ensures, c .before .before .before .before .before .switch-ticks .ensures, c .before .before .before .before .before .before .before .jobs-of .ensures, c .before .before .before .before .before .before .before .before .piece-at .ensures) refl
 
 pub piece-fits-spec : {M : Type 1} → statement M
 piece-fits-spec =

@@ -1,3 +1,4 @@
+use mathlib.Core.Path.{refl}
 use Rattle.plan.specs.Questions.{windowFits}
 use borrow.Author.Needs.{needs}
 use Rattle.windows.proofs.window_fits.Statement.{statement}
@@ -32,7 +33,7 @@ cast-ends c = search needs
 -- src/lib.rt:55:1
 returns : tie.Need-returns
 unfolding windowFits
-returns c = cc
+returns c = rw (c .cycle-ticks .ensures, c .before .window-end .ensures, c .before .before .before .window-at .ensures, c .before .before .before .before .charge-at .ensures) refl
 
 pub window-fits-spec : {M : Type 1} → statement M
 window-fits-spec =
