@@ -7,6 +7,7 @@ ghost use Rattle.plan.specs.declared.Table.the-variants.{Cores, Vcpus, Tasks, W
 ghost use Rattle.plan.specs.Image.{wordAt, shape, trailerBytes, trailerAt, cycleTicks, precision, offset, rows, tableEnd, part, field};
 ghost use Rattle.plan.specs.Image.{core, vcpu, task, window, piece, link, stream, frame, buffer, chain};
 ghost use Rattle.plan.specs.Held.{InImage};
+ghost use Rattle.tables.specs.Tables.{tableAt};
 use plan::Buffer;
 use plan::Chain;
 use plan::Core;
@@ -74,6 +75,25 @@ pub fn shape_of(table: Table) -> Shape
             width: Chain::WORDS,
             most: Chain::MAX,
         },
+    }
+}
+
+// The tables, by their place.
+pub fn table_at(i: u32) -> Table
+    requires { ⌜ i < 10 ⌝ }
+    ensures { λ r. ⌜ r ≡ tableAt i ⌝ }
+{
+    match i {
+        0 => Table::Cores,
+        1 => Table::Vcpus,
+        2 => Table::Tasks,
+        3 => Table::Windows,
+        4 => Table::Pieces,
+        5 => Table::Links,
+        6 => Table::Streams,
+        7 => Table::Frames,
+        8 => Table::Buffers,
+        _ => Table::Chains,
     }
 }
 

@@ -1,3 +1,4 @@
+use mathlib.Core.Path.{refl}
 use native.Mathlib.Omega.{arith}
 use Rattle.plan.specs.Image.{shape, frame}
 use Rattle.tables.proofs.frame_at.Statement.{statement}
@@ -34,7 +35,7 @@ field-of-requires-5 c κs = let p = c .before .before .before .before .before .p
 -- src/lib.rt:244:5
 returns : tie.Need-returns
 unfolding frame
-returns c = cc
+returns c = rw (c .field-of5 .ensures, c .before .field-of4 .ensures, c .before .before .field-of3 .ensures, c .before .before .before .field-of2 .ensures, c .before .before .before .before .field-of .ensures) refl
 
 pub frame-at-spec : {M : Type 1} → statement M
 frame-at-spec =

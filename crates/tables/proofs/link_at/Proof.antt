@@ -1,3 +1,4 @@
+use mathlib.Core.Path.{refl}
 use native.Mathlib.Omega.{arith}
 use Rattle.plan.specs.Image.{shape, link}
 use Rattle.tables.proofs.link_at.Statement.{statement}
@@ -29,7 +30,7 @@ field-of-requires-4 c κs = let p = c .before .before .before .before .pre in (p
 -- src/lib.rt:220:1
 returns : tie.Need-returns
 unfolding link
-returns c = cc
+returns c = rw (c .field-of4 .ensures, c .before .field-of3 .ensures, c .before .before .field-of2 .ensures, c .before .before .before .field-of .ensures) refl
 
 pub link-at-spec : {M : Type 1} → statement M
 link-at-spec =

@@ -1,3 +1,4 @@
+use mathlib.Core.Path.{refl}
 use native.Mathlib.Omega.{arith}
 use Rattle.plan.specs.Image.{shape, vcpu}
 use Rattle.tables.proofs.vcpu_at.Statement.{statement}
@@ -14,7 +15,7 @@ field-of-requires c κs = let p = c .before .pre in (p .0, (p .1, omega arith))
 -- src/lib.rt:133:5
 returns : tie.Need-returns
 unfolding vcpu
-returns c = cc
+returns c = rw (c .field-of .ensures) refl
 
 pub vcpu-at-spec : {M : Type 1} → statement M
 vcpu-at-spec = tie.close (tie.spec field-of-requires returns)
