@@ -13,7 +13,7 @@ use Rattle.plan.proofs.Numbers.{real-tables, real-image, real-rows, real-pieces
 use Rattle.plan.proofs.Asking.{then-asked, stopped-first, passed-of, passed-all}
 use Rattle.plan.proofs.Meanings.{image-agree, row-agree}
 use Rattle.plan.proofs.Sounds.{in-image, sound}
-use Rattle.layout.specs.Tests.{rowTest}
+use Rattle.rows.specs.Tests.{rowTest}
 use Rattle.chains.specs.Walks.{BeforeChains}
 
 module _ (s : List ℕ) where
@@ -41,7 +41,7 @@ module _ (s : List ℕ) where
   unfolding pieceQuestions
   pieces-passed e = passed-of (pieceQuestions s) (real-pieces s) e
 
-  -- 5, 32 and 6, as layout asks them
+  -- 5, 32 and 6, as rows asks them
   pub five : answerTo (eachTable s 5 tables (rowTest s 5)) ≡ answerTo nameQuestions
   unfolding rowTest
   five = refl

@@ -41,15 +41,15 @@ fn ask_rows(image: &[u8]) -> Answer
     requires { ⌜ InImage (now image) ⌝ }
     ensures { λ r. ⌜ r ≡ answerTo (rowQuestions (now (image .entry))) ⌝ }
 {
-    let names = layout::ask_tables(image, 5);
+    let names = rows::ask_tables(image, 5);
     if names.number != 0 {
         return names;
     }
-    let order = layout::ask_tables(image, 32);
+    let order = rows::ask_tables(image, 32);
     if order.number != 0 {
         return order;
     }
-    layout::ask_tables(image, 6)
+    rows::ask_tables(image, 6)
 }
 
 // The first question answered no, with its table and row; 0 0 0 where all are answered yes.

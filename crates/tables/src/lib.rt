@@ -7,6 +7,7 @@ ghost use Rattle.plan.specs.declared.Table.the-variants.{Cores, Vcpus, Tasks, W
 ghost use Rattle.plan.specs.Image.{wordAt, shape, trailerBytes, trailerAt, cycleTicks, precision, offset, rows, tableEnd, part, field};
 ghost use Rattle.plan.specs.Image.{core, vcpu, task, window, piece, link, stream, frame, buffer, chain};
 ghost use Rattle.plan.specs.Held.{InImage};
+ghost use Rattle.tables.specs.Tables.{tableCount, tableAt};
 use plan::Answer;
 use plan::Asked;
 use plan::Buffer;
@@ -91,8 +92,30 @@ pub fn refusal(asked: Asked, row: u32) -> Answer
     }
 }
 
+// How many tables there are.
+pub const TABLES: u32 = 10;
+
+// The tables, by their place.
+pub fn table_at(i: u32) -> Table
+    requires { ⌜ i < tableCount ⌝ }
+    ensures { λ r. ⌜ r ≡ tableAt i ⌝ }
+{
+    match i {
+        0 => Table::Cores,
+        1 => Table::Vcpus,
+        2 => Table::Tasks,
+        3 => Table::Windows,
+        4 => Table::Pieces,
+        5 => Table::Links,
+        6 => Table::Streams,
+        7 => Table::Frames,
+        8 => Table::Buffers,
+        _ => Table::Chains,
+    }
+}
+
 // Trailer and last word: H, P, an offset and a row count for each of the ten tables, and the word that points back.
-pub const TRAILER_BYTES: usize = 92;
+pub const TRAILER_BYTES: usize = 4 * (3 + 2 * TABLES as usize);
 
 // The word of four bytes, lowest first, that begins at byte i.
 pub fn word(bytes: &[u8], i: usize) -> u32

@@ -6,7 +6,7 @@ use Rattle.layout.proofs.length_fits.Tie as tie
 use Rattle.layout.proofs.length_fits.Reads as reads
 use Rattle.layout.proofs.length_fits.Lts as lts
 
--- src/lib.rt:57:1
+-- src/lib.rt:47:1
 returns : tie.Need-returns
 unfolding lengthFits image
 returns c = refl

@@ -6,7 +6,7 @@ use Rattle.questions.proofs.ask_rows.Statement.{statement}
 use Rattle.questions.proofs.ask_rows.Tie as tie
 use Rattle.questions.proofs.ask_rows.Reads as reads
 use Rattle.questions.proofs.ask_rows.Lts as lts
-use Rattle.layout.proofs.ask_tables.Reads as ask-tables-reads
+use Rattle.rows.proofs.ask_tables.Reads as ask-tables-reads
 
 -- src/lib.rt:44:9
 ask-tables-requires : tie.Need-ask-tables-requires

@@ -1,5 +1,5 @@
 use Prim.Native.Nat.{_≤_}
-use mathlib.Core.Path.{ap}
+use mathlib.Core.Path.{refl, ap}
 use native.Mathlib.Omega.{arith}
 use native.Mathlib.Nat.{mul-le-mul-right}
 use Rattle.plan.specs.declared.Shape.{Shape}
@@ -53,7 +53,7 @@ add-result c = let b = c .before .before .before in let e = ap (λ (x : Shape). 
 -- src/lib.rt:270:1
 returns : tie.Need-returns
 unfolding tableEnd
-returns c = cc (c .before .before .before .shape-of .ensures)
+returns c = rw (c .before .before .before .shape-of .ensures, c .before .offset-of .ensures, c .rows-of .ensures) refl
 
 pub end-of-spec : {M : Type 1} → statement M
 end-of-spec =
