@@ -9,7 +9,7 @@ TOOLS = Path(__file__).resolve().parent.parent
 ROOT = TOOLS.parent
 EXAMPLES = ROOT / "examples" / "plans"
 PEER = ROOT / "peer"
-sys.path.insert(0, str(TOOLS))
+sys.path[:0] = [str(TOOLS), str(ROOT / ".ci")]
 
 SHAPES = ("bare", "units", "small", "medium", "rich", "large", "busy", "full")
 
