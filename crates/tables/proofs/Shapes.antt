@@ -19,7 +19,8 @@ number-most Frames = omega arith
 number-most Buffers = omega arith
 number-most Chains = omega arith
 
-pub width-most : (t : Table) → shape t .width ≤ 5
+-- room for wider rows
+pub width-most : (t : Table) → shape t .width ≤ 8
 unfolding shape
 width-most Cores = omega arith
 width-most Vcpus = omega arith
@@ -33,5 +34,5 @@ width-most Buffers = omega arith
 width-most Chains = omega arith
 
 -- the words of so many rows
-pub row-words : (t : Table) (n : ℕ) → shape t .width * n ≤ 5 * n
+pub row-words : (t : Table) (n : ℕ) → shape t .width * n ≤ 8 * n
 row-words t n = mul-le-mul-right n (width-most t)

@@ -40,15 +40,15 @@ cast-result-2 c = search needs
 
 -- src/lib.rt:275:43
 mul-result : tie.Need-mul-result
-mul-result c = let b = c .before .before .before in let e = ap (λ (x : Shape). x .width) (b .shape-of .ensures) in let h : b .shape-of .result .width ≤ 5 = omega (arith, width-most (b .before .before .args .table)) in omega (arith, mul-le-mul-right (c .rows-of .result) h, c .rows-of .ok, c .before .offset-of .ok)
+mul-result c = let b = c .before .before .before in let e = ap (λ (x : Shape). x .width) (b .shape-of .ensures) in let h : b .shape-of .result .width ≤ 8 = omega (arith, width-most (b .before .before .args .table)) in omega (arith, mul-le-mul-right (c .rows-of .result) h, c .rows-of .ok, c .before .offset-of .ok)
 
 -- src/lib.rt:275:38
 mul-result-2 : tie.Need-mul-result-2
-mul-result-2 c = let b = c .before .before .before in let e = ap (λ (x : Shape). x .width) (b .shape-of .ensures) in let h : b .shape-of .result .width ≤ 5 = omega (arith, width-most (b .before .before .args .table)) in omega (arith, mul-le-mul-right (c .rows-of .result) h, c .rows-of .ok, c .before .offset-of .ok)
+mul-result-2 c = let b = c .before .before .before in let e = ap (λ (x : Shape). x .width) (b .shape-of .ensures) in let h : b .shape-of .result .width ≤ 8 = omega (arith, width-most (b .before .before .args .table)) in omega (arith, mul-le-mul-right (c .rows-of .result) h, c .rows-of .ok, c .before .offset-of .ok)
 
 -- src/lib.rt:275:5
 add-result : tie.Need-add-result
-add-result c = let b = c .before .before .before in let e = ap (λ (x : Shape). x .width) (b .shape-of .ensures) in let h : b .shape-of .result .width ≤ 5 = omega (arith, width-most (b .before .before .args .table)) in omega (arith, mul-le-mul-right (c .rows-of .result) h, c .rows-of .ok, c .before .offset-of .ok)
+add-result c = let b = c .before .before .before in let e = ap (λ (x : Shape). x .width) (b .shape-of .ensures) in let h : b .shape-of .result .width ≤ 8 = omega (arith, width-most (b .before .before .args .table)) in omega (arith, mul-le-mul-right (c .rows-of .result) h, c .rows-of .ok, c .before .offset-of .ok)
 
 -- src/lib.rt:270:1
 returns : tie.Need-returns

@@ -29,15 +29,15 @@ part-of-requires c κs = search needs
 
 -- src/lib.rt:411:21
 mul-word : tie.Need-mul-word
-mul-word c = let b = c .before .before in let a = b .before .before .args in let e = ap (λ (x : Shape). x .width) (b .shape-of .ensures) in let h : b .shape-of .result .width ≤ 5 = omega (arith, width-most (a .table)) in omega (arith, mul-le-mul-right (a .row) h, b .before .before .pre .1 .1)
+mul-word c = let b = c .before .before in let a = b .before .before .args in let e = ap (λ (x : Shape). x .width) (b .shape-of .ensures) in let h : b .shape-of .result .width ≤ 8 = omega (arith, width-most (a .table)) in omega (arith, mul-le-mul-right (a .row) h, b .before .before .pre .1 .1)
 
 -- src/lib.rt:411:21
 add-word : tie.Need-add-word
-add-word c = let b = c .before .before in let a = b .before .before .args in let e = ap (λ (x : Shape). x .width) (b .shape-of .ensures) in let h : b .shape-of .result .width ≤ 5 = omega (arith, width-most (a .table)) in omega (arith, mul-le-mul-right (a .row) h, b .before .before .pre .1 .1)
+add-word c = let b = c .before .before in let a = b .before .before .args in let e = ap (λ (x : Shape). x .width) (b .shape-of .ensures) in let h : b .shape-of .result .width ≤ 8 = omega (arith, width-most (a .table)) in omega (arith, mul-le-mul-right (a .row) h, b .before .before .pre .1 .1)
 
 -- src/lib.rt:411:16
 mul-word-2 : tie.Need-mul-word-2
-mul-word-2 c = let b = c .before .before in let a = b .before .before .args in let e = ap (λ (x : Shape). x .width) (b .shape-of .ensures) in let h : b .shape-of .result .width ≤ 5 = omega (arith, width-most (a .table)) in omega (arith, mul-le-mul-right (a .row) h, b .before .before .pre .1 .1)
+mul-word-2 c = let b = c .before .before in let a = b .before .before .args in let e = ap (λ (x : Shape). x .width) (b .shape-of .ensures) in let h : b .shape-of .result .width ≤ 8 = omega (arith, width-most (a .table)) in omega (arith, mul-le-mul-right (a .row) h, b .before .before .pre .1 .1)
 
 -- src/lib.rt:411:5
 word-requires : tie.Need-word-requires
