@@ -3,7 +3,7 @@ import re
 from dataclasses import dataclass
 
 PLACE = r"[^\s:]+:\d+:\d+"
-ERROR = re.compile(rf"^({PLACE}): error(?:\[[^]]*\])?: (.*)", re.M)
+ERROR = re.compile(rf"^({PLACE}): error(?:\[[^]]*\])?: (.*(?:\n  .*)*)", re.M)
 NEED = re.compile(rf"^note: ({PLACE}): (.*)", re.M)  # what a proof that rattle made by itself could not show
 WITHOUT = re.compile(r"^(fn \S+): (no proof.*)", re.M)
 
@@ -15,7 +15,7 @@ NO_SUCH_NAME = re.compile(r"that can be named from here|is not in scope|has no f
 
 REFUSED, NOT_REFUSED, SHAPE_ONLY, BAD = "refused", "NOT REFUSED", "REFUSED ONLY FOR ITS SHAPE", "BAD EDIT"
 
-WIDTH = 150
+WIDTH = 200
 
 
 @dataclass(frozen=True)
@@ -29,7 +29,7 @@ def verdict(status, said):
     if status == 0:
         return Verdict(NOT_REFUSED, "the crate is still proved with this edit")
     place, words, shape = first_error(said)
-    reason = cut(f"{place}: {words}")
+    reason = f"{place}: {in_one_line(words)}"
     if status != 1 or not re.search("^logic=not-proved", said, re.M):
         return Verdict(BAD, f"it did not reach the prover, or the prover could not tell (status {status}); {reason}")
     return Verdict(SHAPE_ONLY if shape else REFUSED, reason)
@@ -39,8 +39,8 @@ def first_error(said):
     """The first error that does not only follow from another: its place, its words, and whether it is about the edit's shape."""
     errors = ERROR.findall(said)
     for place, words in errors:
-        if FOLLOWS not in words:
-            return place, words, is_shape(place, words)
+        if FOLLOWS not in words.splitlines()[0]:
+            return place, words, is_shape(place, words.splitlines()[0])
     for place, words in NEED.findall(said):
         return place, words, False
     for function, words in WITHOUT.findall(said):
@@ -57,5 +57,8 @@ def is_shape(place, words):
     return bool(NO_SUCH_NAME.search(words)) or not words.startswith("`") or place.startswith("src/")
 
 
-def cut(line):
-    return line if len(line) <= WIDTH else line[:WIDTH] + " .."
+def in_one_line(words):
+    """An error's words, cut: where two types differ once they are computed tells more than where they differ as written."""
+    words = re.sub(r"as printed, .*?\n  (computed as far as they go, )", r"\1", words, count=1, flags=re.S)
+    words = re.sub(r"( \.before)+", " ..", " ".join(words.split()))
+    return words if len(words) <= WIDTH else words[:WIDTH] + " .."

@@ -149,9 +149,11 @@ class Verdicts(unittest.TestCase):
         self.told(BAD, "rattle: no verdict", status=3, end="rattle: no verdict: out of memory")
 
     def test_a_reason_is_a_short_line(self):
-        found = verdict(1, f"proofs/f/Proof.antt:1:2: error: `x`: {'long ' * 99}\n  more\nlogic=not-proved\n")
-        self.assertLess(len(found.reason), 160)
-        self.assertNotIn("\n", found.reason)
+        lines = ["proofs/f/Proof.antt:1:2: error: `x`: as printed, the two types differ where one has `1`", "  (expected)"]
+        self.told(REFUSED, "`x`: as printed, the two types differ where one has `1` (expected)", *lines)
+        lines += ["  computed as far as they go, the two types differ only where one has `c .before .before .row`", "  (found)"]
+        self.told(REFUSED, ": `x`: computed as far as they go, the two types differ only where one has `c .. .row` (found)", *lines)
+        self.assertLess(len(verdict(1, f"{lines[0]} {'long ' * 99}\nlogic=not-proved\n").reason), 240)
 
 
 def put(root, files):
