@@ -11,8 +11,8 @@ use borrow.Author.Tests.{ltb-true, leb-true}
 use Rattle.plan.specs.Dispatch.{tableEntries, fits, step}
 use Rattle.plan.specs.declared.LaneState.{LaneState}
 use Rattle.plan.proofs.Searching.{and-true}
-use Rattle.steps.specs.declared.Lookup.{Lookup}
-use Rattle.steps.specs.Lookups.{fitsTable, endsCalendar, stateAfter, decided}
+use Rattle.moves.specs.declared.Lookup.{Lookup}
+use Rattle.moves.specs.Lookups.{fitsTable, endsCalendar, stateAfter, decided}
 use Rattle.reaperdecade.specs.Entries.{hasEntry}
 
 module _ (words : List ℕ) (st : LaneState) where

@@ -15,9 +15,9 @@ use Rattle.plan.specs.Dispatch.{step, startState}
 use Rattle.plan.specs.Boundary.{wordsOf, stateOf, stateBytes, startNumber, startBytes, stepNumber, stepBytes, firstRecords, recordsOf, refusedNumber, stepAllNumber, stepAllBytes}
 use Rattle.plan.specs.declared.LaneState.{LaneState}
 use Rattle.plan.specs.declared.Stepped.{Stepped}
-use Rattle.steps.specs.declared.Lookup.{Lookup}
-use Rattle.steps.specs.Lookups.{lookup, fitsTable, endsCalendar, stateAfter, decided}
-use Rattle.steps.proofs.Reading.{step-read}
+use Rattle.moves.specs.declared.Lookup.{Lookup}
+use Rattle.moves.specs.Lookups.{lookup, fitsTable, endsCalendar, stateAfter, decided}
+use Rattle.moves.proofs.Reading.{step-read}
 use Rattle.reaperdecade.specs.Entries.{hasEntry}
 use Rattle.reaperdecade.proofs.Bytes.{state-length}
 use Rattle.reaperdecade.proofs.Entries.{no-entry, has-entry, deciding, decided-state}

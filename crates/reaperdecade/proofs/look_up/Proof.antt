@@ -1,7 +1,7 @@
 use Prim.Native.Nat.{_+_}
 use native.Mathlib.Omega.{arith}
 use Rattle.plan.specs.Boundary.{wordsOf}
-use Rattle.steps.proofs.Reading.{looked-up, entryAt}
+use Rattle.moves.proofs.Reading.{looked-up, entryAt}
 use Rattle.writing.proofs.Words.{words-length, words-at}
 use Rattle.reaperdecade.proofs.Entries.{entry-inside}
 use borrow.Author.Needs.{needs}

@@ -1,6 +1,6 @@
 use mathlib.Core.Path.{ap, _∙_}
 use Rattle.plan.specs.Boundary.{stateBytes}
-use Rattle.steps.proofs.Deciding.{fitting}
+use Rattle.moves.proofs.Deciding.{fitting}
 use Rattle.reaperdecade.proofs.Records.{entry-said, fits-said, moved-said}
 use borrow.Author.Needs.{needs}
 use Rattle.reaperdecade.proofs.move_record.Statement.{statement}

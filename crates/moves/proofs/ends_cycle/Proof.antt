@@ -1,8 +1,8 @@
 use mathlib.Core.Path.{refl}
-use Rattle.steps.specs.Lookups.{endsCycle}
+use Rattle.moves.specs.Lookups.{endsCycle}
 use borrow.Author.Needs.{needs}
-use Rattle.steps.proofs.ends_cycle.Statement.{statement}
-use Rattle.steps.proofs.ends_cycle.Tie as tie
+use Rattle.moves.proofs.ends_cycle.Statement.{statement}
+use Rattle.moves.proofs.ends_cycle.Tie as tie
 
 cast-result : tie.Need-cast-result
 cast-result c = search needs

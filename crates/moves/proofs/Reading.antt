@@ -7,8 +7,8 @@ use lib.ListN.{length, getD}
 use lib.Dec.{leb}
 use Rattle.plan.specs.Dispatch.{tableTicks, tableEntries, entryWord, fits, lastTick, calendarEnds, nextEntry, moved, step}
 use Rattle.plan.specs.declared.LaneState.{LaneState}
-use Rattle.steps.specs.declared.Lookup.{Lookup}
-use Rattle.steps.specs.Lookups.{lookup, fitsTable, endsCycle, endsCalendar, entryAfter, stateAfter, decided}
+use Rattle.moves.specs.declared.Lookup.{Lookup}
+use Rattle.moves.specs.Lookups.{lookup, fitsTable, endsCycle, endsCalendar, entryAfter, stateAfter, decided}
 
 module _ (words : List ℕ) (st : LaneState) where
   pub step-read : decided (lookup words st) st ≡ step words st

@@ -1,7 +1,8 @@
-use Rattle.steps.specs.Lookups.{stateAfter}
+use mathlib.Core.Path.{refl}
+use Rattle.moves.specs.Lookups.{stateAfter}
 use borrow.Author.Needs.{needs}
-use Rattle.steps.proofs.state_after.Statement.{statement}
-use Rattle.steps.proofs.state_after.Tie as tie
+use Rattle.moves.proofs.state_after.Statement.{statement}
+use Rattle.moves.proofs.state_after.Tie as tie
 
 cycle-after-requires : tie.Need-cycle-after-requires
 cycle-after-requires c κs = search needs
@@ -14,7 +15,7 @@ entry-after-requires c κs = search needs
 
 returns : tie.Need-returns
 unfolding stateAfter
-returns c = cc
+returns c = rw (c .entry-after .ensures, c .before .tick-after .ensures, c .before .before .cycle-after .ensures) refl
 
 pub state-after-spec : {M : Type 1} → statement M
 state-after-spec =

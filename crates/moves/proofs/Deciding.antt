@@ -7,8 +7,8 @@ use lib.Dec.{ltb, leb}
 use borrow.Author.Tests.{ltb-true, eq-eqb}
 use Rattle.plan.specs.declared.LaneState.{LaneState}
 use Rattle.plan.proofs.Searching.{and-true}
-use Rattle.steps.specs.declared.Lookup.{Lookup}
-use Rattle.steps.specs.Lookups.{fitsTable, endsCycle, endsCalendar}
+use Rattle.moves.specs.declared.Lookup.{Lookup}
+use Rattle.moves.specs.Lookups.{fitsTable, endsCycle, endsCalendar}
 
 middle : (a b c d e : Bool) → a && b && c && d && e ≡ true → (b ≡ true) × (c ≡ true)
 middle a b c d e h =

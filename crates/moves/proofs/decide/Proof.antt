@@ -1,10 +1,12 @@
-use mathlib.Core.Path.{refl, sym, _∙_}
+use mathlib.Core.Path.{refl, sym, _∙_, ap}
 use borrow.Author.Tests.{not-false}
-use Rattle.steps.specs.Lookups.{decided}
-use Rattle.steps.proofs.Deciding.{fitting}
+use Rattle.plan.specs.declared.LaneState.{LaneState}
+use Rattle.plan.specs.declared.Stepped.{Stepped}
+use Rattle.moves.specs.Lookups.{decided}
+use Rattle.moves.proofs.Deciding.{fitting}
 use borrow.Author.Needs.{needs}
-use Rattle.steps.proofs.decide.Statement.{statement}
-use Rattle.steps.proofs.decide.Tie as tie
+use Rattle.moves.proofs.decide.Statement.{statement}
+use Rattle.moves.proofs.decide.Tie as tie
 
 fits-table-requires : tie.Need-fits-table-requires
 fits-table-requires c κs = search needs
@@ -25,7 +27,10 @@ state-after-requires c κs = let b = c .before .before .before .before in (fitti
 
 returns-3 : tie.Need-returns-3
 unfolding decided
-returns-3 c = rw (← c .before .before .before .before .fits-table .ensures, c .before .before .before .if1 .left, ← c .before .before .ends-calendar .ensures, c .before .if2 .left) (cc)
+returns-3 c =
+    let moved : LaneState → Stepped = λ st. record { number = 0; state = st } in
+    rw (← c .before .before .before .before .fits-table .ensures, c .before .before .before .if1 .left, ← c .before .before .ends-calendar .ensures, c .before .if2 .left)
+    (ap moved (c .state-after .ensures))
 
 pub decide-spec : {M : Type 1} → statement M
 decide-spec =

@@ -1,10 +1,10 @@
 use mathlib.Core.Path.{refl, sym, _∙_}
 use native.Mathlib.Omega.{arith}
-use Rattle.steps.specs.Lookups.{stateAfter}
-use Rattle.steps.proofs.Deciding.{not-last}
+use Rattle.moves.specs.Lookups.{stateAfter}
+use Rattle.moves.proofs.Deciding.{not-last}
 use borrow.Author.Needs.{needs}
-use Rattle.steps.proofs.cycle_after.Statement.{statement}
-use Rattle.steps.proofs.cycle_after.Tie as tie
+use Rattle.moves.proofs.cycle_after.Statement.{statement}
+use Rattle.moves.proofs.cycle_after.Tie as tie
 
 ends-cycle-requires : tie.Need-ends-cycle-requires
 ends-cycle-requires c κs = search needs

@@ -1,8 +1,8 @@
 use mathlib.Core.Path.{refl}
-use Rattle.steps.specs.Lookups.{fitsTable}
+use Rattle.moves.specs.Lookups.{fitsTable}
 use borrow.Author.Needs.{needs}
-use Rattle.steps.proofs.fits_table.Statement.{statement}
-use Rattle.steps.proofs.fits_table.Tie as tie
+use Rattle.moves.proofs.fits_table.Statement.{statement}
+use Rattle.moves.proofs.fits_table.Tie as tie
 
 cast-last : tie.Need-cast-last
 cast-last c = search needs

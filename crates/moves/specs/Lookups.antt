@@ -8,7 +8,7 @@ use lib.Dec.{ltb, leb, eqb}
 use Rattle.plan.specs.Dispatch.{tableTicks, tableEntries, entryWord}
 use Rattle.plan.specs.declared.LaneState.{LaneState}
 use Rattle.plan.specs.declared.Stepped.{Stepped}
-use Rattle.steps.specs.declared.Lookup.{Lookup}
+use Rattle.moves.specs.declared.Lookup.{Lookup}
 
 -- the numbers that stand in the words
 unfoldable pub lookup : List ℕ → LaneState → Lookup
