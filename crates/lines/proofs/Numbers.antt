@@ -4,10 +4,10 @@ use mathlib.Core.Path.{_≡_, sym, ap, _∙_}
 use mathlib.Core.List.{List}
 use native.Mathlib.Omega.{arith}
 use lib.ListN.{set}
-use Rattle.printing.specs.Printed.{decimal}
-use Rattle.printing.specs.Putting.{Put}
-use Rattle.printing.proofs.Digits.{decimal-low, decimal-high, decimal-ten}
-use Rattle.printing.proofs.Storing.{put-one, put-more, put-as}
+use Rattle.texts.specs.Printed.{decimal}
+use Rattle.lines.specs.Putting.{Put}
+use Rattle.texts.proofs.Digits.{decimal-low, decimal-high, decimal-ten}
+use Rattle.lines.proofs.Storing.{put-one, put-more, put-as}
 
 module _ (b : List ℕ) (at n : ℕ) where
   -- one digit

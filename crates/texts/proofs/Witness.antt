@@ -9,8 +9,8 @@ use Rattle.plan.specs.declared.Answer.{Answer}
 use Rattle.plan.specs.Questions.{asking}
 use Rattle.plan.specs.Dispatch.{dispatch}
 use Rattle.plan.specs.Cases.{bytes, caseA, caseB}
-use Rattle.printing.specs.Printed.{printed}
-use Rattle.printing.proofs.ReadBack.{same-text}
+use Rattle.texts.specs.Printed.{printed}
+use Rattle.texts.proofs.ReadBack.{same-text}
 
 by-answer : ¬ (printed (bytes caseA) ≡ printed (bytes (set caseA 8 5)))
 unfolding asking dispatch bytes caseA
