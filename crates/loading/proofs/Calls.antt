@@ -24,7 +24,7 @@ use Rattle.writing.proofs.AllTables.{below-small, below-inside, lanes-small, al
 use Rattle.writing.proofs.Reading.{built-fits, all-accepted}
 use Rattle.loading.specs.Loaded.{AreBytes, Loaded, rowBytes, firstIn, startedRow, builtWords, AllStarted, EachBuilt, AllBuilt, AllBuiltLoads, Demand3AfterBuildAll, Demand3AfterBuilds, CanBuildAll, CanBuild, CanHold, RoomForLane, RoomForAll, CanStart, SameWords, Demand3FromC, Demand3FromBuilds}
 use Rattle.sizes.proofs.Bounds.{lane-fits, tables-fit}
-use Rattle.records.proofs.Bytes.{state-length}
+use Rattle.states.proofs.Bytes.{state-length}
 use Rattle.records.proofs.Records.{started}
 use Rattle.loading.proofs.Runs.{record-at}
 use Rattle.loading.proofs.Loads.{zero-accepted, one-row, demand-3-through-c}

@@ -21,7 +21,7 @@ use Rattle.loading.specs.Loaded.{AreBytes, shownBytes, rowBytes, givesBy
 use Rattle.moves.specs.Lookups.{lookup, fitsTable}
 use Rattle.moves.proofs.Deciding.{fitting}
 use Rattle.words.proofs.Words.{words-length, words-at}
-use Rattle.records.proofs.Bytes.{state-length}
+use Rattle.states.proofs.Bytes.{state-length}
 use Rattle.loading.proofs.States.{InWidth, AllInWidth, step-of-bytes, step-all-of-bytes}
 
 abbrev none : LaneState

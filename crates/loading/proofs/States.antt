@@ -15,7 +15,7 @@ use Rattle.plan.specs.Boundary.{wordsOf, bytesOf, stateOf, stateBytes, startNum
 use Rattle.loading.specs.Loaded.{rowBytes}
 use Rattle.plan.specs.declared.LaneState.{LaneState}
 use Rattle.plan.specs.declared.Stepped.{Stepped}
-use Rattle.records.proofs.Bytes.{state-length}
+use Rattle.states.proofs.Bytes.{state-length}
 use Rattle.records.proofs.Records.{started, records-cons, records-nil}
 
 -- ---- there and back

@@ -5,12 +5,12 @@ ghost use Rattle.plan.specs.Boundary.{checkNumber, buildNumber, buildBytes, sta
 ghost use Rattle.writing.specs.AllTables.{allNumber, allBytes};
 use packing::packed;
 use plan::LaneState;
-use records::STATE;
 use records::move_all;
 use records::move_record;
 use records::number_of;
-use records::put_state;
 use records::refused_number;
+use states::STATE;
+use states::put_state;
 
 // Starts a lane: tick 0 of a cycle, with its table at a first word. Gives 0, or 27 for a state of another length than 28,
 // which stays as it was.

@@ -19,7 +19,7 @@ use Rattle.moves.specs.declared.Lookup.{Lookup}
 use Rattle.moves.specs.Lookups.{lookup, fitsTable, endsCalendar, stateAfter, decided}
 use Rattle.moves.proofs.Reading.{step-read}
 use Rattle.records.specs.Entries.{hasEntry}
-use Rattle.records.proofs.Bytes.{state-length}
+use Rattle.states.proofs.Bytes.{state-length}
 use Rattle.records.proofs.Entries.{no-entry, has-entry, deciding, decided-state}
 
 -- ---- one record

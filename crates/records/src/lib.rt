@@ -1,9 +1,9 @@
-// Lanes' records as bytes (paper 01, "What the product covers"): a state in 28 bytes, read and written, and steps over words in bytes.
+// Steps of lanes' records of 28 bytes, over words in bytes (paper 01, "What the product covers").
 ghost use mathlib.Core.Path.{_≡_};
 ghost use mathlib.Core.Bool.{true};
 ghost use Prim.Native.Nat.{_≤_};
 ghost use lib.ListN.{length, getD, take, drop};
-ghost use Rattle.plan.specs.Boundary.{wordsOf, stateOf, stateBytes, stepNumber, stepBytes, stepAllNumber, stepAllBytes};
+ghost use Rattle.plan.specs.Boundary.{wordsOf, stepNumber, stepBytes, stepAllNumber, stepAllBytes};
 ghost use Rattle.moves.specs.Lookups.{lookup};
 ghost use Rattle.records.specs.Entries.{hasEntry};
 use moves::Lookup;
@@ -11,11 +11,10 @@ use moves::ends_calendar;
 use moves::fits_table;
 use moves::state_after;
 use plan::LaneState;
+use states::STATE;
+use states::put_state;
+use states::state_of;
 use tables::word;
-use words::put_word;
-
-// How many bytes a state takes.
-pub const STATE: usize = 28;
 
 // The word at an index, or 0 past the end. A part of a word at the end does not count.
 fn word_at(words: &[u8], i: usize) -> u32
@@ -62,39 +61,6 @@ fn look_up(words: &[u8], state: LaneState) -> Lookup
         row: row,
         next: next,
     }
-}
-
-// The state that a record of 28 bytes holds.
-fn state_of(bytes: &[u8]) -> LaneState
-    requires { ⌜ length (now bytes) ≡ 28 ⌝ }
-    ensures { λ r. ⌜ r ≡ stateOf (now (bytes .entry)) ⌝ }
-{
-    let low = word(bytes, 0) as u64;
-    let high = word(bytes, 4) as u64;
-    LaneState {
-        cycle: low + 4294967296 * high,
-        tick: word(bytes, 8),
-        entry: word(bytes, 12),
-        first: word(bytes, 16),
-        kind: word(bytes, 20),
-        row: word(bytes, 24),
-    }
-}
-
-// Writes a state into a record of 28 bytes.
-pub fn put_state(bytes: &mut [u8], state: LaneState)
-    requires { ⌜ length (now bytes) ≡ 28 ⌝ }
-    ensures { λ _. ⌜ now (bytes .exit) ≡ stateBytes state ⌝ }
-{
-    let low = (state.cycle % 4294967296) as u32;
-    let high = (state.cycle / 4294967296) as u32;
-    put_word(bytes, 0, low);
-    put_word(bytes, 4, high);
-    put_word(bytes, 8, state.tick);
-    put_word(bytes, 12, state.entry);
-    put_word(bytes, 16, state.first);
-    put_word(bytes, 20, state.kind);
-    put_word(bytes, 24, state.row);
 }
 
 // The number of a step of a record of 28 bytes.

@@ -1,8 +1,8 @@
 use mathlib.Core.Path.{refl}
 use Rattle.plan.specs.Boundary.{stateOf}
 use borrow.Author.Needs.{needs}
-use Rattle.records.proofs.state_of.Statement.{statement}
-use Rattle.records.proofs.state_of.Tie as tie
+use Rattle.states.proofs.state_of.Statement.{statement}
+use Rattle.states.proofs.state_of.Tie as tie
 
 word-requires : tie.Need-word-requires
 word-requires c κs = search needs

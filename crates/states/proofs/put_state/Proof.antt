@@ -1,7 +1,7 @@
-use Rattle.records.proofs.Bytes.{state-stored}
+use Rattle.states.proofs.Bytes.{state-stored}
 use borrow.Author.Needs.{needs}
-use Rattle.records.proofs.put_state.Statement.{statement}
-use Rattle.records.proofs.put_state.Tie as tie
+use Rattle.states.proofs.put_state.Statement.{statement}
+use Rattle.states.proofs.put_state.Tie as tie
 
 cast-low : tie.Need-cast-low
 cast-low c = search needs
