@@ -16,16 +16,16 @@ use Rattle.plan.specs.Dispatch.{lanes, tableOf, tablesBelow, firstWord, entryCo
 use Rattle.plan.specs.Boundary.{bytesOf, wordsOf, stateBytes, answerNumber, checkNumber, buildNumber, buildBytes, startNumber, startBytes}
 use Rattle.plan.proofs.Starts.{below-first, below-split, below-lies, starts-many, start-at}
 use Rattle.writing.specs.AllTables.{allTables, allAnswer, allNumber, allBytes}
-use Rattle.writing.proofs.Bytes.{row-length, row-append}
-use Rattle.writing.proofs.Words.{words-length, words-row}
+use Rattle.words.proofs.Bytes.{row-length, row-append}
+use Rattle.words.proofs.Words.{words-length, words-row}
 use Rattle.writing.proofs.Tables.{table-length, bytes-done}
 use Rattle.writing.proofs.Fitting.{below-fits}
 use Rattle.writing.proofs.AllTables.{below-small, below-inside, lanes-small, all-done}
 use Rattle.writing.proofs.Reading.{built-fits, all-accepted}
 use Rattle.loading.specs.Loaded.{AreBytes, Loaded, rowBytes, firstIn, startedRow, builtWords, AllStarted, EachBuilt, AllBuilt, AllBuiltLoads, Demand3AfterBuildAll, Demand3AfterBuilds, CanBuildAll, CanBuild, CanHold, RoomForLane, RoomForAll, CanStart, SameWords, Demand3FromC, Demand3FromBuilds}
 use Rattle.sizes.proofs.Bounds.{lane-fits, tables-fit}
-use Rattle.reaperdecade.proofs.Bytes.{state-length}
-use Rattle.reaperdecade.proofs.Records.{started}
+use Rattle.states.proofs.Bytes.{state-length}
+use Rattle.records.proofs.Records.{started}
 use Rattle.loading.proofs.Runs.{record-at}
 use Rattle.loading.proofs.Loads.{zero-accepted, one-row, demand-3-through-c}
 

@@ -13,8 +13,8 @@ use Rattle.plan.specs.declared.Answer.{Answer}
 use Rattle.plan.specs.declared.LaneState.{LaneState}
 use Rattle.plan.proofs.Demand.{demand-3}
 use Rattle.plan.proofs.Starts.{starts-many, start-at}
-use Rattle.writing.proofs.Bytes.{row-length}
-use Rattle.writing.proofs.Words.{Fit, words-row, words-drop}
+use Rattle.words.proofs.Bytes.{row-length}
+use Rattle.words.proofs.Words.{Fit, words-row, words-drop}
 use Rattle.writing.proofs.Tables.{table-length}
 use Rattle.writing.proofs.Fitting.{table-fits}
 use Rattle.loading.specs.Loaded.{Loaded, shownBytes, rowBytes, givesBytes, afterBytes, Demand3ThroughC}

@@ -18,10 +18,10 @@ use Rattle.plan.specs.Runs.{Call, allLanes, oneLane, gives, leaves, after, reco
 use Rattle.plan.specs.declared.LaneState.{LaneState}
 use Rattle.plan.specs.declared.Stepped.{Stepped}
 use Rattle.loading.specs.Loaded.{AreBytes, shownBytes, rowBytes, givesBytes, leavesBytes, afterBytes}
-use Rattle.steps.specs.Lookups.{lookup, fitsTable}
-use Rattle.steps.proofs.Deciding.{fitting}
-use Rattle.writing.proofs.Words.{words-length, words-at}
-use Rattle.reaperdecade.proofs.Bytes.{state-length}
+use Rattle.moves.specs.Lookups.{lookup, fitsTable}
+use Rattle.moves.proofs.Deciding.{fitting}
+use Rattle.words.proofs.Words.{words-length, words-at}
+use Rattle.states.proofs.Bytes.{state-length}
 use Rattle.loading.proofs.States.{InWidth, AllInWidth, step-of-bytes, step-all-of-bytes}
 
 abbrev none : LaneState

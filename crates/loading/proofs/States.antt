@@ -15,8 +15,8 @@ use Rattle.plan.specs.Boundary.{wordsOf, bytesOf, stateOf, stateBytes, startNum
 use Rattle.loading.specs.Loaded.{rowBytes}
 use Rattle.plan.specs.declared.LaneState.{LaneState}
 use Rattle.plan.specs.declared.Stepped.{Stepped}
-use Rattle.reaperdecade.proofs.Bytes.{state-length}
-use Rattle.reaperdecade.proofs.Records.{started, records-cons, records-nil}
+use Rattle.states.proofs.Bytes.{state-length}
+use Rattle.records.proofs.Records.{started, records-cons, records-nil}
 
 -- ---- there and back
 

@@ -1,4 +1,1 @@
-pub mod Bytes
-pub mod Entries
-pub mod Records
 pub mod Answers

@@ -1,1 +1,1 @@
-// How long dispatch tables can be: bounds (specs/) and their proofs, and no code.
+// How long dispatch tables and the text can be: bounds (specs/) and their proofs, and no code.

@@ -1,4 +1,2 @@
 pub mod Branch
-pub mod Deciding
-pub mod Reading
 pub mod Records

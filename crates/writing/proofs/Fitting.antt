@@ -16,7 +16,7 @@ use Rattle.plan.proofs.Showing.{core-piece, core-window, core-idle, link-frame,
 use Rattle.plan.proofs.Shows.{first-at}
 use Rattle.lanes.proofs.Accepted.{cycle-small}
 use Rattle.plan.proofs.Sounds.{accepted-sound}
-use Rattle.writing.proofs.Words.{Fit, fit-append}
+use Rattle.words.proofs.Words.{Fit, fit-append}
 use Rattle.writing.proofs.AllTables.{count-small}
 
 -- what is shown is of a small kind and a row that there is

@@ -1,5 +1,3 @@
-pub mod Bytes
-pub mod Words
 pub mod Storing
 pub mod Tables
 pub mod AllTables

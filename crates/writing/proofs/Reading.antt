@@ -16,7 +16,7 @@ use Rattle.plan.proofs.Starts.{below-lies, starts-many, start-at}
 use Rattle.lanes.proofs.Building.{built-accepted, build-no-lane, build-short}
 use Rattle.writing.specs.Stored.{BuiltBytes}
 use Rattle.writing.specs.AllTables.{allTables, allAnswer, allBytes, AllLie, AllReady}
-use Rattle.writing.proofs.Words.{words-length, words-row, words-drop}
+use Rattle.words.proofs.Words.{words-length, words-row, words-drop}
 use Rattle.writing.proofs.Tables.{table-length}
 use Rattle.writing.proofs.AllTables.{all-refused}
 use Rattle.writing.proofs.Fitting.{table-fits, below-fits}

@@ -17,7 +17,7 @@ use Rattle.lanes.specs.declared.Walk.{Walk}
 use Rattle.lanes.specs.Walks.{StepFrom}
 use Rattle.lanes.proofs.Walking.{entries-yes, entries-no, count-yes, count-no}
 use Rattle.writing.specs.Stored.{stored}
-use Rattle.writing.proofs.Bytes.{row-length, row-append, sets-append, sets-before}
+use Rattle.words.proofs.Bytes.{row-length, row-append, sets-append, sets-before}
 
 pub stored-length : (b : List ℕ) (i : ℕ) (ws : List ℕ) → length (stored b i ws) ≡ length b
 unfolding stored

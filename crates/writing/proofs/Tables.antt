@@ -15,7 +15,7 @@ use Rattle.plan.specs.Boundary.{bytesOf, wordsOf, buildBytes}
 use Rattle.plan.proofs.Tables.{entries-length}
 use Rattle.lanes.proofs.Building.{build-refused, build-no-lane, build-short, build-done}
 use Rattle.writing.specs.Stored.{stored, Built}
-use Rattle.writing.proofs.Words.{words-length}
+use Rattle.words.proofs.Words.{words-length}
 use Rattle.writing.proofs.Storing.{stored-one, stored-after, stored-before, stored-front}
 
 -- two words, and the three of an entry

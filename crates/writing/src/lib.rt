@@ -4,10 +4,8 @@ ghost use mathlib.Core.Path.{_≡_};
 ghost use mathlib.Core.List.{_∷_, []};
 ghost use Prim.Native.Nat.{_+_, _*_, _<_, _≤_};
 ghost use lib.ListN.{length};
-ghost use lib.Seq.{sets};
 ghost use Rattle.plan.specs.Image.{cycleTicks};
 ghost use Rattle.plan.specs.Dispatch.{lanes, entryCount, entries, tableOf};
-ghost use Rattle.plan.specs.Boundary.{bytesOf};
 ghost use Rattle.lanes.specs.Walks.{Gathered};
 ghost use Rattle.writing.specs.Stored.{stored, Built};
 ghost use Rattle.writing.specs.AllTables.{allTables, BuiltAll};
@@ -17,17 +15,7 @@ use lanes::start;
 use lanes::step;
 use plan::Answer;
 use tables::cycle_ticks;
-
-// Writes a word from byte i on, the lowest byte first.
-pub fn put_word(bytes: &mut [u8], i: usize, x: u32)
-    requires { ⌜ i + 4 ≤ length (now bytes) ⌝ }
-    ensures { λ _. ⌜ now (bytes .exit) ≡ sets (now (bytes .entry)) i (bytesOf 4 x) ⌝ }
-{
-    bytes[i] = (x % 256) as u8;
-    bytes[i + 1] = (x / 256 % 256) as u8;
-    bytes[i + 2] = (x / 65536 % 256) as u8;
-    bytes[i + 3] = (x / 16777216 % 256) as u8;
-}
+use words::put_word;
 
 // An entry from byte `at` on: first tick, kind, row.
 fn put_entry(bytes: &mut [u8], at: usize, first: u32, kind: u32, row: u32)

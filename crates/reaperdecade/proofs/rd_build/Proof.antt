@@ -1,12 +1,12 @@
 use mathlib.Core.Path.{ap, _∙_}
 use Rattle.plan.specs.Boundary.{answerNumber, wordsOf, buildNumber}
-use Rattle.reaperdecade.proofs.Answers.{build-small}
+use Rattle.packing.proofs.Answers.{build-small}
 use borrow.Author.Needs.{needs}
 use Rattle.reaperdecade.proofs.rd_build.Statement.{statement}
 use Rattle.reaperdecade.proofs.rd_build.Tie as tie
 use Rattle.reaperdecade.proofs.rd_build.Reads as reads
 use Rattle.reaperdecade.proofs.rd_build.Lts as lts
-use Rattle.reaperdecade.proofs.packed.Reads as packed-reads
+use Rattle.packing.proofs.packed.Reads as packed-reads
 use Rattle.writing.proofs.build.Reads as build-reads
 
 build-requires : tie.Need-build-requires

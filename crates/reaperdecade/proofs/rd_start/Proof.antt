@@ -1,6 +1,6 @@
 use mathlib.Core.Path.{ap, _∙_}
 use Rattle.plan.specs.Boundary.{stateBytes}
-use Rattle.reaperdecade.proofs.Records.{started, not-started}
+use Rattle.records.proofs.Records.{started, not-started}
 use borrow.Author.Needs.{needs}
 use Rattle.reaperdecade.proofs.rd_start.Statement.{statement}
 use Rattle.reaperdecade.proofs.rd_start.Tie as tie

@@ -1,5 +1,5 @@
 use mathlib.Core.Path.{_∙_}
-use Rattle.reaperdecade.proofs.Records.{other-length, refused-stays}
+use Rattle.records.proofs.Records.{other-length, refused-stays}
 use borrow.Author.Needs.{needs}
 use Rattle.reaperdecade.proofs.rd_step.Statement.{statement}
 use Rattle.reaperdecade.proofs.rd_step.Tie as tie

@@ -1,5 +1,5 @@
 use mathlib.Core.Path.{_∙_}
-use Rattle.reaperdecade.proofs.Records.{refused-all}
+use Rattle.records.proofs.Records.{refused-all}
 use borrow.Author.Needs.{needs}
 use Rattle.reaperdecade.proofs.rd_step_all.Statement.{statement}
 use Rattle.reaperdecade.proofs.rd_step_all.Tie as tie

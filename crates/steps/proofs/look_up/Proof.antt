@@ -1,4 +1,4 @@
-use Rattle.steps.proofs.Reading.{looked-up}
+use Rattle.moves.proofs.Reading.{looked-up}
 use borrow.Author.Needs.{needs}
 use Rattle.steps.proofs.look_up.Statement.{statement}
 use Rattle.steps.proofs.look_up.Tie as tie
@@ -61,7 +61,10 @@ add-inside-2 : tie.Need-add-inside-2
 add-inside-2 c = search needs
 
 returns : tie.Need-returns
-returns c = let b = c .before .before .before .before .before .before .before .before .before in cc (looked-up (b .args .words .now) (b .args .state))
+returns c =
+    let b = c .before .before .before .before .before .before .before .before .before in
+    rw (c .word-at6 .ensures, c .before .word-at5 .ensures, c .before .before .word-at4 .ensures, c .before .before .before .word-at3 .ensures, c .before .before .before .before .word-at2 .ensures, c .before .before .before .before .before .word-at .ensures)
+    (looked-up (b .args .words .now) (b .args .state))
 
 pub look-up-spec : {M : Type 1} → statement M
 look-up-spec =

@@ -4,7 +4,7 @@ use Rattle.writing.proofs.put_entry.Statement.{statement}
 use Rattle.writing.proofs.put_entry.Tie as tie
 use Rattle.writing.proofs.put_entry.Reads as reads
 use Rattle.writing.proofs.put_entry.Lts as lts
-use Rattle.writing.proofs.put_word.Reads as put-word-reads
+use Rattle.words.proofs.put_word.Reads as put-word-reads
 
 put-word-requires : tie.Need-put-word-requires
 put-word-requires c κs = search needs

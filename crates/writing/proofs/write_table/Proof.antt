@@ -7,7 +7,7 @@ use Rattle.writing.proofs.write_table.Tie as tie
 use Rattle.writing.proofs.write_table.Reads as reads
 use Rattle.writing.proofs.write_table.Lts as lts
 use Rattle.tables.proofs.cycle_ticks.Reads as cycle-ticks-reads
-use Rattle.writing.proofs.put_word.Reads as put-word-reads
+use Rattle.words.proofs.put_word.Reads as put-word-reads
 use Rattle.writing.proofs.write_entries.Reads as write-entries-reads
 
 add-write-entries : tie.Need-add-write-entries
