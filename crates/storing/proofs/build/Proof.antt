@@ -1,18 +1,18 @@
 use Rattle.writing.proofs.Tables.{bytes-refused, bytes-no-lane}
 use Rattle.writing.specs.Stored.{Built}
 use Rattle.plan.proofs.Numbers.{accepted-of}
 use Rattle.plan.specs.declared.Answer.{Answer}
 use native.Mathlib.Omega.{arith}
 use mathlib.Core.Path.{refl, sym, ap, subst, _∙_}
 use borrow.Author.Needs.{needs}
-use Rattle.writing.proofs.build.Statement.{statement}
-use Rattle.writing.proofs.build.Tie as tie
-use Rattle.writing.proofs.build.Reads as reads
-use Rattle.writing.proofs.build.Lts as lts
+use Rattle.storing.proofs.build.Statement.{statement}
+use Rattle.storing.proofs.build.Tie as tie
+use Rattle.storing.proofs.build.Reads as reads
+use Rattle.storing.proofs.build.Lts as lts
 use Rattle.building.proofs.lane_count.Reads as lane-count-reads
 use Rattle.lanes.proofs.gather.Reads as gather-reads
 use Rattle.questions.proofs.check.Reads as check-reads
 use Rattle.writing.proofs.fill.Reads as fill-reads
 
 -- src/lib.rt:115:9
 check-requires : tie.Need-check-requires

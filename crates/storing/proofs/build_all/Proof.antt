@@ -1,17 +1,17 @@
 use Rattle.writing.proofs.AllTables.{all-refused}
 use Rattle.writing.specs.AllTables.{BuiltAll}
 use Rattle.plan.proofs.Numbers.{accepted-of}
 use Rattle.plan.specs.declared.Answer.{Answer}
 use native.Mathlib.Omega.{arith}
 use mathlib.Core.Path.{refl, sym, ap, subst, _∙_}
 use borrow.Author.Needs.{needs}
-use Rattle.writing.proofs.build_all.Statement.{statement}
-use Rattle.writing.proofs.build_all.Tie as tie
-use Rattle.writing.proofs.build_all.Reads as reads
-use Rattle.writing.proofs.build_all.Lts as lts
+use Rattle.storing.proofs.build_all.Statement.{statement}
+use Rattle.storing.proofs.build_all.Tie as tie
+use Rattle.storing.proofs.build_all.Reads as reads
+use Rattle.storing.proofs.build_all.Lts as lts
 use Rattle.lanes.proofs.gather.Reads as gather-reads
 use Rattle.questions.proofs.check.Reads as check-reads
 use Rattle.writing.proofs.fill_all.Reads as fill-all-reads
 
 -- src/lib.rt:183:9
 check-requires : tie.Need-check-requires
