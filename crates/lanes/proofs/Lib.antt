@@ -1,6 +1,4 @@
 pub mod Accepted
-pub mod Looking
-pub mod Stretches
 pub mod Walking
 pub mod Writing
 pub mod Building

@@ -12,14 +12,16 @@ use Rattle.plan.specs.Image.{rows, cycleTicks}
 use Rattle.plan.specs.Search.{count}
 use Rattle.plan.specs.Dispatch.{Shown, show, same, shownAt, begins, entries}
 use Rattle.plan.proofs.Counting.{count-next, count-same}
-use Rattle.lanes.specs.Walks.{stretchAt, idleStretch, segmentOf, Ahead, Shows, Keeps, Sees, Reached, StepFrom}
-use Rattle.lanes.specs.declared.Stretch.{Stretch}
-use Rattle.lanes.specs.declared.Segment.{Segment}
-use Rattle.lanes.specs.declared.Cursors.{Cursors}
-use Rattle.lanes.specs.declared.View.{View}
+use Rattle.cursors.specs.Keeps.{Keeps}
+use Rattle.stretches.specs.Stretches.{stretchAt, idleStretch, segmentOf, Ahead, Shows, Sees}
+use Rattle.lanes.specs.Walks.{Reached, StepFrom}
+use Rattle.stretches.specs.declared.Stretch.{Stretch}
+use Rattle.stretches.specs.declared.Segment.{Segment}
+use Rattle.cursors.specs.declared.Cursors.{Cursors}
+use Rattle.stretches.specs.declared.View.{View}
 use Rattle.lanes.specs.declared.Walk.{Walk}
 use Rattle.places.specs.declared.Occupant.the-variants.{Piece, Window, Frame}
-use Rattle.lanes.proofs.Looking.{cursor-later}
+use Rattle.cursors.proofs.Looking.{cursor-later}
 
 -- ---- segments
 

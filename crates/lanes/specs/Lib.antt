@@ -1,4 +1,3 @@
-pub mod Taken
 pub mod Walks
 pub mod Words
 pub mod LookUp

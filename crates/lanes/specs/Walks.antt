@@ -1,85 +1,22 @@
--- What a lane shows for a while, and a walk along a lane. How far a stretch or a segment reaches is open: these say only that what it
--- shows is what the lane shows, and that it goes on.
-use Prim.Native.Nat.{ℕ, _+_, _-_, _≤_, _<_, min}
+-- A walk along a lane. How far a segment reaches is open: these say only that what it shows is what the lane shows, and that it goes on.
+use Prim.Native.Nat.{ℕ, _-_, _≤_, _<_}
 use mathlib.Core.Path.{_≡_}
-use mathlib.Core.Bool.{cond}
 use mathlib.Core.List.{List}
-use lib.Dec.{ltb}
-use Rattle.plan.specs.declared.Table.the-variants.{Cores}
-use Rattle.plan.specs.Image.{rows, cycleTicks, piece, window}
-use Rattle.plan.specs.Questions.{pieceEnd, switchTicks, windowEnd, charge, frameEnd, answerOf, accepted}
+use Rattle.plan.specs.Image.{cycleTicks}
 use Rattle.plan.specs.Dispatch as D
-use Rattle.plan.specs.Dispatch.{Shown, show, shownAt}
-use Rattle.lanes.specs.declared.Stretch.{Stretch}
-use Rattle.lanes.specs.declared.Segment.{Segment}
-use Rattle.lanes.specs.declared.Cursors.{Cursors}
-use Rattle.lanes.specs.declared.View.{View}
+use Rattle.plan.specs.Dispatch.{show, shownAt}
+use Rattle.cursors.specs.Keeps.{Keeps}
+use Rattle.stretches.specs.Stretches.{Ahead}
+pub use Rattle.stretches.specs.Stretches.{Gathered}
 use Rattle.lanes.specs.declared.Walk.{Walk}
-use Rattle.lanes.specs.Taken.{Cursor}
-use Rattle.charges.specs.Charges.{Charged}
-use Rattle.places.specs.declared.Occupant.the-variants.{Piece, Window, Frame}
-use Rattle.places.specs.Index.{Indexed}
-
--- what a stretch shows at tick x
-unfoldable pub stretchAt : Stretch → ℕ → Shown
-stretchAt r x = cond (ltb x (r .turn)) (show (r .kind) (r .row)) (show (r .later) (r .row))
-
--- nothing up to a tick, a piece, a window up to a tick, a frame
-unfoldable pub idleStretch : ℕ → Stretch
-idleStretch n = record { kind = 0; later = 0; row = 0; turn = 0; until = n }
-
-unfoldable pub pieceStretch : List ℕ → ℕ → Stretch
-pieceStretch s i = record { kind = 3; later = 4; row = i; turn = piece s i .start + switchTicks s (piece s i .task); until = pieceEnd s i }
-
-unfoldable pub windowStretch : List ℕ → ℕ → ℕ → Stretch
-windowStretch s w most = record { kind = 1; later = 2; row = w; turn = window s w .start + charge s w; until = min (windowEnd s w) most }
-
-unfoldable pub frameStretch : List ℕ → ℕ → Stretch
-frameStretch s f = record { kind = 5; later = 5; row = f; turn = 0; until = frameEnd s f }
-
--- the first segment of a stretch from tick t on
-unfoldable pub segmentOf : Stretch → ℕ → Segment
-segmentOf r t =
-    cond (ltb t (r .turn))
-    (record { kind = r .kind; row = r .row; until = min (r .turn) (r .until) })
-    (record { kind = r .later; row = r .row; until = r .until })
-
-module _ (shown : ℕ → Shown) (t ticks : ℕ) where
-  -- a stretch is right from tick t on, up to its end
-  pub record Ahead (r : Stretch) : Type 0 where
-    pub within : r .until ≤ ticks
-    pub shows : (x : ℕ) → t ≤ x → x < r .until → shown x ≡ stretchAt r x
-
-  -- and is not over
-  pub record Shows (r : Stretch) : Type 0 where
-    pub after : t < r .until
-    pub ahead : Ahead r
-
--- ---- a walk along a lane
-
--- an accepted plan, its windows' charges, and its rows place by place
-pub record Gathered (s charges index : List ℕ) : Type 0 where
-  pub passed : answerOf s ≡ accepted
-  pub charged : Charged s charges
-  pub indexed : Indexed s index
 
 module _ (s : List ℕ) (lane : ℕ) where
-  -- cursors point to where a lane is at tick t: to a piece and a window of its core, or to a frame of its link
-  pub record Keeps (t : ℕ) (k : Cursors) : Type 0 where
-    pub core : lane < rows s Cores → Cursor s Piece lane t (k .piece) × Cursor s Window lane t (k .window)
-    pub link : rows s Cores ≤ lane → Cursor s Frame (lane - rows s Cores) t (k .frame)
-
-  -- a view is right from tick t on
-  pub record Sees (t : ℕ) (v : View) : Type 0 where
-    pub shows : Shows (shownAt s lane) t (cycleTicks s) (v .stretch)
-    pub keeps : Keeps t (v .cursors)
-
   -- a walk's last tick, and what is known from there on
   pub record Reached (w : Walk) : Type 0 where
     pub within : w .until ≤ cycleTicks s
     pub last : 1 ≤ w .until → shownAt s lane (w .until - 1) ≡ show (w .kind) (w .row)
     pub ahead : Ahead (shownAt s lane) (w .until) (cycleTicks s) (w .view .stretch)
-    pub keeps : Keeps (w .until) (w .view .cursors)
+    pub keeps : Keeps s lane (w .until) (w .view .cursors)
 
   -- a walk after a step from tick t
   pub record StepFrom (t : ℕ) (w : Walk) : Type 0 where

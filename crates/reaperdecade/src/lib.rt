@@ -69,7 +69,7 @@ pub extern "C" fn rd_check(image: &[u8]) -> u64
 pub extern "C" fn rd_build(image: &[u8], lane: u32, words: &mut [u8]) -> u64
     ensures { λ r. ⌜ (r ≡ buildNumber (now (image .entry)) lane (now (words .entry))) × (now (words .exit) ≡ buildBytes (now (image .entry)) lane (now (words .entry))) ⌝ }
 {
-    packed(writing::build(image, lane, words))
+    packed(storing::build(image, lane, words))
 }
 
 // Builds the tables of all lanes one after another, lanes rising: asks the check's questions once, then 26 of all words together. Later
@@ -78,5 +78,5 @@ pub extern "C" fn rd_build(image: &[u8], lane: u32, words: &mut [u8]) -> u64
 pub extern "C" fn rd_build_all(image: &[u8], words: &mut [u8]) -> u64
     ensures { λ r. ⌜ (r ≡ allNumber (now (image .entry)) (now (words .entry))) × (now (words .exit) ≡ allBytes (now (image .entry)) (now (words .entry))) ⌝ }
 {
-    packed(writing::build_all(image, words))
+    packed(storing::build_all(image, words))
 }

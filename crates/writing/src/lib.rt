@@ -1,5 +1,5 @@
-// Tables in bytes (paper 01, "What the product covers" and "Dispatch"; questions 25 and 26): a lane's table written into lent bytes as
-// little-endian words, entry by entry as the walk along the lane finds them.
+// Tables in bytes (paper 01, "What the product covers" and "Dispatch"; question 26): a lane's table written into lent bytes as
+// little-endian words, entry by entry as the walk along the lane finds them, and the tables of all lanes.
 ghost use mathlib.Core.Path.{_≡_};
 ghost use mathlib.Core.List.{_∷_, []};
 ghost use Prim.Native.Nat.{_+_, _*_, _<_, _≤_};
@@ -79,7 +79,7 @@ fn write_table(
 }
 
 // 26, and the table of a lane of an accepted plan where the words suffice. A part of a word at the end does not count.
-fn fill(image: &[u8], charges: &[u32], index: &[u32], lane: u32, bytes: &mut [u8]) -> Answer
+pub fn fill(image: &[u8], charges: &[u32], index: &[u32], lane: u32, bytes: &mut [u8]) -> Answer
     requires { ⌜ Gathered (now image) (now charges) (now index) × (lane < lanes (now image)) ⌝ }
     ensures { λ r. ⌜ Built (now (image .entry)) lane (now (bytes .entry)) r (now (bytes .exit)) ⌝ }
 {
@@ -93,28 +93,6 @@ fn fill(image: &[u8], charges: &[u32], index: &[u32], lane: u32, bytes: &mut [u8
     }
     write_table(image, charges, index, lane, bytes, 0);
     plan::accepted()
-}
-
-// Builds a lane's table: asks the check's questions, then 25 and 26, and writes H, n and the entries from byte 0 on. Later bytes, and all bytes
-// after a refusal, stay as they are.
-pub fn build(image: &[u8], lane: u32, bytes: &mut [u8]) -> Answer
-    ensures { λ r. ⌜ Built (now (image .entry)) lane (now (bytes .entry)) r (now (bytes .exit)) ⌝ }
-{
-    let answer = questions::check(image);
-    if answer.number != 0 {
-        return answer;
-    }
-    if lane_count(image) <= lane {
-        return Answer {
-            number: 25,
-            table: 0,
-            row: 0,
-        };
-    }
-    let mut charges = [0u32; lanes::CHARGES];
-    let mut index = [0u32; lanes::INDEX];
-    lanes::gather(image, &mut charges, &mut index);
-    fill(image, &charges, &index, lane, bytes)
 }
 
 // How many words the tables of all lanes take.
@@ -148,7 +126,7 @@ fn write_all(image: &[u8], charges: &[u32], index: &[u32], bytes: &mut [u8])
 }
 
 // 26 of all words together, and the tables of all lanes of an accepted plan where the words suffice.
-fn fill_all(image: &[u8], charges: &[u32], index: &[u32], bytes: &mut [u8]) -> Answer
+pub fn fill_all(image: &[u8], charges: &[u32], index: &[u32], bytes: &mut [u8]) -> Answer
     requires { ⌜ Gathered (now image) (now charges) (now index) ⌝ }
     ensures { λ r. ⌜ BuiltAll (now (image .entry)) (now (bytes .entry)) r (now (bytes .exit)) ⌝ }
 {
@@ -161,19 +139,4 @@ fn fill_all(image: &[u8], charges: &[u32], index: &[u32], bytes: &mut [u8]) -> A
     }
     write_all(image, charges, index, bytes);
     plan::accepted()
-}
-
-// Builds the tables of all lanes, lanes rising: asks the check's questions once, then 26 of all words together. Later bytes, and all bytes
-// after a refusal, stay as they are.
-pub fn build_all(image: &[u8], bytes: &mut [u8]) -> Answer
-    ensures { λ r. ⌜ BuiltAll (now (image .entry)) (now (bytes .entry)) r (now (bytes .exit)) ⌝ }
-{
-    let checked = questions::check(image);
-    if checked.number != 0 {
-        return checked;
-    }
-    let mut charges = [0u32; lanes::CHARGES];
-    let mut index = [0u32; lanes::INDEX];
-    lanes::gather(image, &mut charges, &mut index);
-    fill_all(image, &charges, &index, bytes)
 }

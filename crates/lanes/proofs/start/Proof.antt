@@ -5,8 +5,8 @@ use Rattle.lanes.proofs.start.Statement.{statement}
 use Rattle.lanes.proofs.start.Tie as tie
 use Rattle.lanes.proofs.start.Reads as reads
 use Rattle.lanes.proofs.start.Lts as lts
-use Rattle.lanes.proofs.first_cursors.Reads as first-cursors-reads
-use Rattle.lanes.proofs.idle_stretch.Reads as idle-stretch-reads
+use Rattle.cursors.proofs.first_cursors.Reads as first-cursors-reads
+use Rattle.stretches.proofs.idle_stretch.Reads as idle-stretch-reads
 
 -- src/lib.rt:351:9
 idle-stretch-requires : tie.Need-idle-stretch-requires

@@ -4,8 +4,8 @@ use Rattle.lanes.proofs.step.Statement.{statement}
 use Rattle.lanes.proofs.step.Tie as tie
 use Rattle.lanes.proofs.step.Reads as reads
 use Rattle.lanes.proofs.step.Lts as lts
-use Rattle.lanes.proofs.go_on.Reads as go-on-reads
-use Rattle.lanes.proofs.segment_at.Reads as segment-at-reads
+use Rattle.stretches.proofs.go_on.Reads as go-on-reads
+use Rattle.stretches.proofs.segment_at.Reads as segment-at-reads
 
 -- src/lib.rt:371:9
 go-on-requires : tie.Need-go-on-requires

@@ -7,7 +7,7 @@ use Rattle.reaperdecade.proofs.rd_build.Tie as tie
 use Rattle.reaperdecade.proofs.rd_build.Reads as reads
 use Rattle.reaperdecade.proofs.rd_build.Lts as lts
 use Rattle.packing.proofs.packed.Reads as packed-reads
-use Rattle.writing.proofs.build.Reads as build-reads
+use Rattle.storing.proofs.build.Reads as build-reads
 
 build-requires : tie.Need-build-requires
 build-requires c κs = search needs

@@ -8,7 +8,7 @@ use Rattle.reaperdecade.proofs.rd_build_all.Tie as tie
 use Rattle.reaperdecade.proofs.rd_build_all.Reads as reads
 use Rattle.reaperdecade.proofs.rd_build_all.Lts as lts
 use Rattle.packing.proofs.packed.Reads as packed-reads
-use Rattle.writing.proofs.build_all.Reads as build-all-reads
+use Rattle.storing.proofs.build_all.Reads as build-all-reads
 
 build-all-requires : tie.Need-build-all-requires
 build-all-requires c κs = search needs
