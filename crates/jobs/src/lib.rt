@@ -1,22 +1,19 @@
 // The first start, the last end and the work of every job (paper 01, "The plan image"), gathered in one pass over the pieces into words
-// that the caller lends (specs/Times.antt says where each stands), and question 13.
+// that the caller lends (specs/Times.antt says where each stands).
 ghost use mathlib.Core.Path.{_≡_};
 ghost use Prim.Native.Nat.{_+_, _^_, _<_, min, max};
 ghost use lib.ListN.{length, getD};
 ghost use Rattle.plan.specs.declared.Table.the-variants.{Tasks, Pieces};
 ghost use Rattle.plan.specs.Image.{rows, cycleTicks, mostPieces};
-ghost use Rattle.plan.specs.Search.{firstNo};
-ghost use Rattle.plan.specs.Questions.{jobs, firstStart, lastEnd, jobBudget, taskBudget, pieceQuestions};
+ghost use Rattle.plan.specs.Questions.{jobs, firstStart, lastEnd, pieceQuestions};
 ghost use Rattle.plan.specs.Held.{Sound, Passed};
-ghost use Rattle.jobs.specs.Times.{Cleared, takenAt, Gathered, AllGathered, TasksBefore, JobsBefore, Timed, worksAt, timesWords};
-use plan::Found;
+ghost use Rattle.jobs.specs.Times.{Cleared, takenAt, Gathered, AllGathered, Timed, worksAt, timesWords};
 use plan::Piece;
 use plan::Table;
 use plan::Task;
 use tables::cycle_ticks;
 use tables::piece_at;
 use tables::rows_of;
-use tables::task_at;
 use tallies::greater;
 use tallies::lesser;
 use terms::jobs_of;
@@ -27,13 +24,14 @@ use terms::switch_ticks;
 pub const WORDS: usize = WORKS + JOBS;
 
 // How many jobs have a place.
-const JOBS: usize = Piece::MAX as usize;
+pub const JOBS: usize = Piece::MAX as usize;
 
 const FIRSTS: usize = Task::MAX as usize;
 
 const LASTS: usize = FIRSTS + JOBS;
 
-const WORKS: usize = LASTS + JOBS;
+// Where the work of each job stands.
+pub const WORKS: usize = LASTS + JOBS;
 
 // Writes the place of each task's job 0: the number of jobs of the tasks before it.
 fn place_tasks(image: &[u8], times: &mut [u32])
@@ -115,52 +113,6 @@ pub fn gather(image: &[u8], times: &mut [u32])
     clear_jobs(times, cycle);
     place_tasks(image, times);
     take_all(image, times);
-}
-
-// 13: is the job's work its task's budget? All jobs before it have theirs, and so a piece each: a job past the places has none left.
-fn job_budget(image: &[u8], times: &[u32], task: u32, job: u32) -> bool
-    requires { ⌜ Sound (now image) × (Passed (pieceQuestions (now image)) 6 × AllGathered (now image) (now times)) ⌝ }
-    requires { ⌜ (task < rows (now image) Tasks) × ((job < jobs (now image) task) × JobsBefore (now image) task job) ⌝ }
-    ensures { λ r. ⌜ r ≡ jobBudget (now (image .entry)) task job ⌝ }
-{
-    let place = times[task as usize] as usize + job as usize;
-    if JOBS <= place {
-        return false;
-    }
-    times[WORKS + place] == task_at(image, task).budget
-}
-
-// 13: have all jobs of the task? The search ends at a job without its budget, so that it goes no further than there are pieces.
-fn task_budget(image: &[u8], times: &[u32], task: u32) -> bool
-    requires { ⌜ Sound (now image) × (Passed (pieceQuestions (now image)) 6 × AllGathered (now image) (now times)) ⌝ }
-    requires { ⌜ (task < rows (now image) Tasks) × TasksBefore (now image) task ⌝ }
-    ensures { λ r. ⌜ r ≡ taskBudget (now (image .entry)) task ⌝ }
-{
-    let jobs = jobs_of(image, task);
-    let mut job: u32 = 0;
-    while job < jobs {
-        if !job_budget(image, times, task, job) {
-            return false;
-        }
-        job += 1;
-    }
-    true
-}
-
-// 13: the lowest task with a job that has not its budget.
-pub fn first_off_budget(image: &[u8], times: &[u32]) -> Found
-    requires { ⌜ Sound (now image) × (Passed (pieceQuestions (now image)) 6 × AllGathered (now image) (now times)) ⌝ }
-    ensures { λ r. ⌜ r ≡ firstNo (rows (now (image .entry)) Tasks) (taskBudget (now (image .entry))) ⌝ }
-{
-    let tasks = rows_of(image, Table::Tasks);
-    let mut task: u32 = 0;
-    while task < tasks {
-        if !task_budget(image, times, task) {
-            return Found::At(task);
-        }
-        task += 1;
-    }
-    Found::Nothing
 }
 
 // A job's first start.

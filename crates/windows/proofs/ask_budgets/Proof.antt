@@ -10,7 +10,7 @@ use Rattle.windows.proofs.ask_budgets.Statement.{statement}
 use Rattle.windows.proofs.ask_budgets.Tie as tie
 use Rattle.windows.proofs.ask_budgets.Reads as reads
 use Rattle.windows.proofs.ask_budgets.Lts as lts
-use Rattle.jobs.proofs.first_off_budget.Reads as first-off-budget-reads
+use Rattle.budgets.proofs.first_off_budget.Reads as first-off-budget-reads
 use Rattle.jobs.proofs.gather.Reads as gather-reads
 use Rattle.plan.proofs.accepted.Reads as accepted-reads
 use Rattle.tables.proofs.refusal.Reads as refusal-reads

@@ -10,11 +10,11 @@ use Rattle.plan.specs.Image.{rows}
 use Rattle.plan.specs.Search.{firstNo}
 use Rattle.plan.specs.Questions.{taskBudget}
 use Rattle.plan.proofs.Searching.{turn-yes, stops}
-use Rattle.jobs.proofs.first_off_budget.Statement.{statement}
-use Rattle.jobs.proofs.first_off_budget.Tie as tie
-use Rattle.jobs.proofs.first_off_budget.Reads as reads
-use Rattle.jobs.proofs.first_off_budget.Lts as lts
-use Rattle.jobs.proofs.task_budget.Reads as task-budget-reads
+use Rattle.budgets.proofs.first_off_budget.Statement.{statement}
+use Rattle.budgets.proofs.first_off_budget.Tie as tie
+use Rattle.budgets.proofs.first_off_budget.Reads as reads
+use Rattle.budgets.proofs.first_off_budget.Lts as lts
+use Rattle.budgets.proofs.task_budget.Reads as task-budget-reads
 use Rattle.tables.proofs.rows_of.Reads as rows-of-reads
 
 abbrev Inv-loop : tie.InvT-loop

@@ -1,13 +1,13 @@
 use native.Mathlib.Omega.{arith}
 use Rattle.plan.specs.declared.Table.the-variants.{Tasks}
 use Rattle.plan.specs.Image.{shape}
 use Rattle.jobs.proofs.Gathering.{task-word-most}
-use Rattle.jobs.proofs.Budgets.{no-place-left, by-work}
+use Rattle.budgets.proofs.Budgets.{no-place-left, by-work}
 use borrow.Author.Needs.{needs}
-use Rattle.jobs.proofs.job_budget.Statement.{statement}
-use Rattle.jobs.proofs.job_budget.Tie as tie
-use Rattle.jobs.proofs.job_budget.Reads as reads
-use Rattle.jobs.proofs.job_budget.Lts as lts
+use Rattle.budgets.proofs.job_budget.Statement.{statement}
+use Rattle.budgets.proofs.job_budget.Tie as tie
+use Rattle.budgets.proofs.job_budget.Reads as reads
+use Rattle.budgets.proofs.job_budget.Lts as lts
 use Rattle.tables.proofs.task_at.Reads as task-at-reads
 
 -- src/lib.rt:134:17

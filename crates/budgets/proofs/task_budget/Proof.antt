@@ -9,11 +9,11 @@ use Rattle.plan.specs.Search.{all}
 use Rattle.plan.specs.Questions as Q
 use Rattle.plan.specs.Questions.{jobBudget, taskBudget}
 use Rattle.plan.proofs.Searching.{all-turn, all-stops}
-use Rattle.jobs.proofs.task_budget.Statement.{statement}
-use Rattle.jobs.proofs.task_budget.Tie as tie
-use Rattle.jobs.proofs.task_budget.Reads as reads
-use Rattle.jobs.proofs.task_budget.Lts as lts
-use Rattle.jobs.proofs.job_budget.Reads as job-budget-reads
+use Rattle.budgets.proofs.task_budget.Statement.{statement}
+use Rattle.budgets.proofs.task_budget.Tie as tie
+use Rattle.budgets.proofs.task_budget.Reads as reads
+use Rattle.budgets.proofs.task_budget.Lts as lts
+use Rattle.budgets.proofs.job_budget.Reads as job-budget-reads
 use Rattle.terms.proofs.jobs_of.Reads as jobs-of-reads
 
 abbrev Inv-loop : tie.InvT-loop
