@@ -12,11 +12,21 @@ ghost use Rattle.lanes.specs.Walks.{Gathered, Reached, StepFrom};
 ghost use Rattle.lanes.specs.Words.{putAt, Filled};
 use cursors::first_cursors;
 use plan::Answer;
+use plan::Table;
 use stretches::View;
 use stretches::go_on;
 use stretches::idle_stretch;
 use stretches::segment_at;
 use tables::cycle_ticks;
+use tables::rows_of;
+
+// How many lanes an accepted plan has: one for each core, then one for each link.
+pub fn lane_count(image: &[u8]) -> u32
+    requires { ⌜ answerOf (now image) ≡ accepted ⌝ }
+    ensures { λ r. ⌜ r ≡ lanes (now (image .entry)) ⌝ }
+{
+    rows_of(image, Table::Cores) + rows_of(image, Table::Links)
+}
 
 // How many words a walk needs: charges, and the index of places.
 pub const CHARGES: usize = charges::WORDS;

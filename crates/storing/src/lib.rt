@@ -2,7 +2,7 @@
 // table as little-endian words; or the tables of all lanes.
 ghost use Rattle.writing.specs.Stored.{Built};
 ghost use Rattle.writing.specs.AllTables.{BuiltAll};
-use building::lane_count;
+use lanes::lane_count;
 use plan::Answer;
 use writing::fill;
 use writing::fill_all;

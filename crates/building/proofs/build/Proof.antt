@@ -9,7 +9,7 @@ use Rattle.building.proofs.build.Statement.{statement}
 use Rattle.building.proofs.build.Tie as tie
 use Rattle.building.proofs.build.Reads as reads
 use Rattle.building.proofs.build.Lts as lts
-use Rattle.building.proofs.lane_count.Reads as lane-count-reads
+use Rattle.lanes.proofs.lane_count.Reads as lane-count-reads
 use Rattle.lanes.proofs.fill.Reads as fill-reads
 use Rattle.lanes.proofs.gather.Reads as gather-reads
 use Rattle.questions.proofs.check.Reads as check-reads

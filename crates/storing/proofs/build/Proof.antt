@@ -9,7 +9,7 @@ use Rattle.storing.proofs.build.Statement.{statement}
 use Rattle.storing.proofs.build.Tie as tie
 use Rattle.storing.proofs.build.Reads as reads
 use Rattle.storing.proofs.build.Lts as lts
-use Rattle.building.proofs.lane_count.Reads as lane-count-reads
+use Rattle.lanes.proofs.lane_count.Reads as lane-count-reads
 use Rattle.lanes.proofs.gather.Reads as gather-reads
 use Rattle.questions.proofs.check.Reads as check-reads
 use Rattle.writing.proofs.fill.Reads as fill-reads

@@ -9,7 +9,7 @@ use Rattle.writing.proofs.words_of_all.Statement.{statement}
 use Rattle.writing.proofs.words_of_all.Tie as tie
 use Rattle.writing.proofs.words_of_all.Reads as reads
 use Rattle.writing.proofs.words_of_all.Lts as lts
-use Rattle.building.proofs.lane_count.Reads as lane-count-reads
+use Rattle.lanes.proofs.lane_count.Reads as lane-count-reads
 use Rattle.lanes.proofs.count_entries.Reads as count-entries-reads
 
 abbrev Inv-loop : tie.InvT-loop

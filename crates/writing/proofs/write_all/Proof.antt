@@ -12,7 +12,7 @@ use Rattle.writing.proofs.write_all.Statement.{statement}
 use Rattle.writing.proofs.write_all.Tie as tie
 use Rattle.writing.proofs.write_all.Reads as reads
 use Rattle.writing.proofs.write_all.Lts as lts
-use Rattle.building.proofs.lane_count.Reads as lane-count-reads
+use Rattle.lanes.proofs.lane_count.Reads as lane-count-reads
 use Rattle.writing.proofs.write_table.Reads as write-table-reads
 
 abbrev Inv-loop : tie.InvT-loop

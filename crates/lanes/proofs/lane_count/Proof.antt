@@ -4,10 +4,10 @@ use Rattle.plan.specs.declared.Table.the-variants.{Cores, Links}
 use Rattle.plan.specs.Image.{shape}
 use Rattle.plan.specs.Dispatch.{lanes}
 use Rattle.plan.proofs.Sounds.{accepted-sound}
-use Rattle.building.proofs.lane_count.Statement.{statement}
-use Rattle.building.proofs.lane_count.Tie as tie
-use Rattle.building.proofs.lane_count.Reads as reads
-use Rattle.building.proofs.lane_count.Lts as lts
+use Rattle.lanes.proofs.lane_count.Statement.{statement}
+use Rattle.lanes.proofs.lane_count.Tie as tie
+use Rattle.lanes.proofs.lane_count.Reads as reads
+use Rattle.lanes.proofs.lane_count.Lts as lts
 use Rattle.tables.proofs.rows_of.Reads as rows-of-reads
 
 -- src/lib.rt:15:5
