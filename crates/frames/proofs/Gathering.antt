@@ -125,7 +125,7 @@ module _ (s : List ℕ) where
           lasts = tally-skip (λ _ f. f) 0 (framePlace s) (λ f. f) index lastsAt mostFrames n (h .lasts) l;
         }
 
--- a place below 512 is kept as it is
+-- a place that is kept is kept as it is
 pub capped-is : (p x : ℕ) → p ≡ min mostFrames x → p < mostFrames → p ≡ x
 capped-is p x e l = omega arith
 

@@ -14,7 +14,8 @@ use Rattle.texts.specs.Printed.{printed}
 abbrev pub LaneFits : Type 0
 LaneFits = (image : List ℕ) → answerOf image ≡ accepted → (lane : ℕ) → (entryCount image lane ≤ 9217) × (length (tableOf image lane) ≤ 27653)
 
--- all lanes together have at most 96 + 3×2,048 + 3×1,024 + 2×512, in 2×96 + 3×10,336 words
+-- all lanes together have at most one for each of 96 lanes, three for each of 2,048 pieces and 1,024 windows and two for each of 512 frames,
+-- in 2×96 + 3×10,336 words
 abbrev pub TablesFit : Type 0
 TablesFit = (image : List ℕ) → answerOf image ≡ accepted → (sum (lanes image) (entryCount image) ≤ 10336) × (length (allTables image) ≤ 31200)
 

@@ -9,7 +9,7 @@ use Rattle.plan.specs.declared.Found.{Found}
 use Rattle.plan.specs.declared.Found.the-variants.{At, Nothing}
 use Rattle.plan.specs.declared.Table.{Table}
 use Rattle.plan.specs.declared.Table.the-variants.{Cores, Windows, Pieces, Frames}
-use Rattle.plan.specs.Image.{shape, rows, cycleTicks, piece, window}
+use Rattle.plan.specs.Image.{shape, rows, cycleTicks, piece, window, mostPieces}
 use Rattle.plan.specs.Questions.{answerOf, accepted, switchTicks, charge}
 use Rattle.plan.specs.Dispatch.{Shown, show, pieceAt, windowAt, frameAt, onCore, onLink, shownAt, begins, entries, tableOf, tablesBelow}
 use Rattle.plan.proofs.Showing.{core-piece, core-window, core-idle, link-frame, link-idle}
@@ -21,18 +21,18 @@ use Rattle.writing.proofs.AllTables.{count-small}
 
 -- what is shown is of a small kind and a row that there is
 abbrev pub Small : Shown → Type 0
-Small x = (x .kind < 6) × (x .row < 2048)
+Small x = (x .kind < 6) × (x .row < mostPieces)
 
 small-either : (b : Bool) (x y : Shown) → Small x → Small y → Small (cond b x y)
 small-either true x y h k = h
 small-either false x y h k = k
 
-small-show : (k r : ℕ) → k < 6 → r < 2048 → Small (show k r)
+small-show : (k r : ℕ) → k < 6 → r < mostPieces → Small (show k r)
 unfolding show
 small-show k r h l = (h, l)
 
 module _ (s : List ℕ) (e : answerOf s ≡ accepted) where
-  few : (t : Table) → shape t .most ≤ 2048 → (i : ℕ) → i < rows s t → i < 2048
+  few : (t : Table) → shape t .most ≤ mostPieces → (i : ℕ) → i < rows s t → i < mostPieces
   few t h i l = omega (arith, accepted-sound s e .inside .counts t)
 
   core-small : (core t : ℕ) → Small (onCore s core t)
