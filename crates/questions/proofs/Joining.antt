@@ -14,7 +14,7 @@ use Rattle.plan.proofs.Asking.{then-asked, stopped-first, passed-of, passed-all
 use Rattle.plan.proofs.Meanings.{image-agree, row-agree}
 use Rattle.plan.proofs.Sounds.{in-image, sound}
 use Rattle.rows.specs.Tests.{rowTest}
-use Rattle.chains.specs.Walks.{BeforeChains}
+use Rattle.paths.specs.Walks.{BeforeChains}
 
 module _ (s : List ℕ) where
   abbrev nameQuestions : List Question

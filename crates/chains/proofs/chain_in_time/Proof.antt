@@ -8,8 +8,8 @@ use Rattle.plan.specs.Image.{chain}
 use Rattle.plan.specs.Search.{all}
 use Rattle.plan.specs.Questions.{chainInTime}
 use Rattle.plan.proofs.Searching.{all-turn, all-stops}
-use Rattle.chains.specs.Walks.{jobWithin}
-use Rattle.chains.proofs.Leading.{tasks-of, passed-one}
+use Rattle.paths.specs.Walks.{jobWithin}
+use Rattle.paths.proofs.Leading.{tasks-of, passed-one}
 use Rattle.chains.proofs.chain_in_time.Statement.{statement}
 use Rattle.chains.proofs.chain_in_time.Tie as tie
 use Rattle.chains.proofs.chain_in_time.Reads as reads

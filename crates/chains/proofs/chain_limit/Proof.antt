@@ -2,7 +2,7 @@ use mathlib.Core.Path.{_≡_, refl}
 use mathlib.Core.Bool.{false}
 use lib.Dec.{eqb}
 use borrow.Author.Tests.{ne-eqb}
-use Rattle.chains.proofs.Leading.{tasks-of}
+use Rattle.paths.proofs.Leading.{tasks-of}
 use Rattle.plan.specs.Image.{chain}
 use Rattle.plan.specs.Questions.{chainLimit}
 use borrow.Author.Needs.{needs}

@@ -1,6 +1,6 @@
 use mathlib.Core.Path.{refl}
-use Rattle.chains.proofs.Leading.{tasks-of, passed-one, last-job}
-use Rattle.chains.specs.Walks.{jobWithin}
+use Rattle.paths.proofs.Leading.{tasks-of, passed-one, last-job}
+use Rattle.paths.specs.Walks.{jobWithin}
 use borrow.Author.Needs.{needs}
 use Rattle.chains.proofs.job_within.Statement.{statement}
 use Rattle.chains.proofs.job_within.Tie as tie

@@ -7,7 +7,7 @@ use Rattle.chains.proofs.passes.Tie as tie
 use Rattle.chains.proofs.passes.Reads as reads
 use Rattle.chains.proofs.passes.Lts as lts
 use Rattle.chains.proofs.chain_in_time.Reads as chain-in-time-reads
-use Rattle.chains.proofs.chain_path.Reads as chain-path-reads
+use Rattle.paths.proofs.chain_path.Reads as chain-path-reads
 use Rattle.chains.proofs.chain_tasks.Reads as chain-tasks-reads
 
 -- src/lib.rt:163:15

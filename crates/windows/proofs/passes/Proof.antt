@@ -6,9 +6,9 @@ use Rattle.windows.proofs.passes.Statement.{statement}
 use Rattle.windows.proofs.passes.Tie as tie
 use Rattle.windows.proofs.passes.Reads as reads
 use Rattle.windows.proofs.passes.Lts as lts
-use Rattle.windows.proofs.mask_allows.Reads as mask-allows-reads
-use Rattle.windows.proofs.piece_fits.Reads as piece-fits-reads
-use Rattle.windows.proofs.window_fits.Reads as window-fits-reads
+use Rattle.pieces.proofs.mask_allows.Reads as mask-allows-reads
+use Rattle.pieces.proofs.piece_fits.Reads as piece-fits-reads
+use Rattle.pieces.proofs.window_fits.Reads as window-fits-reads
 
 -- src/lib.rt:72:14
 window-fits-requires : tie.Need-window-fits-requires
