@@ -1,12 +1,14 @@
 /*
- * reaperdecade.h - check tunnel plans, build their dispatch tables, step them.
+ * reaperdecade.h - check tunnel plans, build their dispatch tables, step them;
+ * edit their pieces in drafts.
  *
  * The functions of libreaperdecade.a, for C99 and later and for C++. Each of
  * them is proved to meet its contract: its result and every byte that it
  * leaves are what the definitions of the plan paper give, for any bytes.
  *
  * Buffers. A buffer is a pointer to its first byte, which is not null, and its
- * length in bytes, which may be 0. Any alignment will do. While a call runs,
+ * length in bytes, which may be 0. Any alignment will do. (Drafts alone are lent
+ * as rows of uint32_t, aligned as such and counted in words.) While a call runs,
  * nobody else may write its buffers, nobody else may read those that it
  * writes, and a buffer that it writes may not overlap another one. Nothing is
  * kept between calls and no memory is allocated, so calls on buffers that are
@@ -155,6 +157,111 @@ uint32_t rd_step(const uint8_t *words, size_t words_len, uint8_t *state, size_t 
  * lowest state that is refused, 27 or 28, and writes nothing.
  */
 uint32_t rd_step_all(const uint8_t *words, size_t words_len, uint8_t *states, size_t states_len);
+
+/*
+ * Drafts. A draft is a row of words made from an image, in which pieces are
+ * added, removed and moved, and in which the piece total of each job and each
+ * core's total of piece ticks are kept: the sums of lengths, switch ticks
+ * among them, true after every edit. The image need not be accepted; it has to
+ * pass 1 to 10 and 32 alone. So pieces may lie outside windows, overlap, or be
+ * too few or too many.
+ *
+ * words      a pointer to the first of n words, aligned as a uint32_t is, and
+ *            n, counted in words. The first RD_DRAFT_WORDS are the draft; later
+ *            words are never written, and say nothing. With fewer, making
+ *            gives 34 and every other call 33.
+ *
+ * The words are in the machine's own byte order and their layout is the
+ * library's own, so a draft never leaves the machine: do not store one for
+ * another machine or another version of the library. It may be copied, and
+ * lent with more words or fewer at each call. Equal pieces do not mean equal
+ * words: places that are free hold what was there before.
+ *
+ * Any words are taken. Each call but rd_draft_make asks first whether they are
+ * a draft with true totals (33); words that somebody else has changed are
+ * refused by that, unless they are a draft with true totals again.
+ *
+ * A piece is named by its place, 0 to 2,047: on making its row in the image,
+ * on adding one that the caller chooses. Pieces that are added or moved meet
+ * 5 (there is such a task) and 10 (the job is below H / T, the length is more
+ * than the task switch, and the piece lies between the job's release and due
+ * tick) by themselves; nothing else is asked of them. No call turns a draft
+ * into an image again.
+ *
+ * A refusal changes no word. Every call goes over all places a few times: some
+ * 0.1 to 0.4 million instructions, and 25 kB of the stack.
+ */
+#define RD_DRAFT_WORDS 32768
+#define RD_DRAFT_PLACES 2048
+
+/*
+ * Makes a draft of an image: 1 to 5, 32 and 6 to 10, then 34 (are there
+ * RD_DRAFT_WORDS words?). What the words held before does not matter.
+ *
+ * Gives 0, or the number of the question answered no.
+ */
+uint32_t rd_draft_make(const uint8_t *image, size_t image_len, uint32_t *words, size_t n);
+
+/*
+ * Adds a piece at a place: 33, then 5 and 10 of the piece, then 34 (is the
+ * place below 2,048 and free?). Start and length are in ticks, and the length
+ * includes the task switch.
+ *
+ * Gives 0, or the number of the question answered no.
+ */
+uint32_t rd_draft_add(uint32_t *words, size_t n, uint32_t place, uint32_t task, uint32_t job, uint32_t start, uint32_t length);
+
+/*
+ * Removes the piece at a place: 33, which asks too whether there is one. The
+ * place can then be used again.
+ *
+ * Gives 0 or 33.
+ */
+uint32_t rd_draft_remove(uint32_t *words, size_t n, uint32_t place);
+
+/*
+ * Moves the piece at a place to another start: 33 as for removing, then 10 of
+ * the piece with that start.
+ *
+ * Gives 0, 33 or 10.
+ */
+uint32_t rd_draft_move(uint32_t *words, size_t n, uint32_t place, uint32_t start);
+
+/*
+ * The piece total of a job: 33, then 5 (is there such a task?), then 10 (is
+ * the job below H / T?). A job without a piece has total 0.
+ *
+ * Gives number + 2^32 * total; the total is 0 where the number is not.
+ */
+uint64_t rd_draft_job(const uint32_t *words, size_t n, uint32_t task, uint32_t job);
+
+/*
+ * A core's total of piece ticks: 33, then 5 (is there such a core?).
+ *
+ * Gives number + 2^32 * total; the total is 0 where the number is not.
+ */
+uint64_t rd_draft_core(const uint32_t *words, size_t n, uint32_t core);
+
+static inline uint32_t rd_draft_number(uint64_t reading)
+{
+    return (uint32_t)(reading & 0xffffffffu);
+}
+
+static inline uint32_t rd_draft_total(uint64_t reading)
+{
+    return (uint32_t)(reading >> 32);
+}
+
+/*
+ * Reads the piece at a place, as last made, added or moved: 33 as for
+ * removing, then 34 (are there four words to write?).
+ *
+ * piece      m words, aligned as a uint32_t is, apart from the draft's.
+ *
+ * Gives 0 and writes task, job, start and length to the first four words of
+ * piece, or the number of the question answered no and writes nothing.
+ */
+uint32_t rd_draft_place(const uint32_t *words, size_t n, uint32_t place, uint32_t *piece, size_t m);
 
 #ifdef __cplusplus
 }

@@ -8,13 +8,20 @@
 use std::path::Path;
 use std::process::Command;
 
-const FUNCTIONS: [&str; 6] = [
+const FUNCTIONS: [&str; 13] = [
     "rd_check",
     "rd_build",
     "rd_build_all",
     "rd_start",
     "rd_step",
     "rd_step_all",
+    "rd_draft_make",
+    "rd_draft_add",
+    "rd_draft_remove",
+    "rd_draft_move",
+    "rd_draft_job",
+    "rd_draft_core",
+    "rd_draft_place",
 ];
 
 fn main() {
@@ -51,7 +58,9 @@ fn seal(library: &Path, out: &Path) -> bool {
     link.arg(&object);
     link.args(FUNCTIONS.map(|name| format!("--undefined={name}")));
     link.arg(library);
+    // What some compilers leave for others is of no use, and binutils may trip over it.
     let mut hide = Command::new("objcopy");
+    hide.args([".llvmbc", ".llvmcmd"].map(|name| format!("--remove-section={name}")));
     hide.args(FUNCTIONS.map(|name| format!("--keep-global-symbol={name}")));
     hide.arg(&object);
     let mut archive = Command::new("ar");

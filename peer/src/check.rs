@@ -24,6 +24,18 @@ pub fn check(image: &[u8]) -> Answer {
 
 /// The plan of an image in which all these questions are answered yes.
 pub fn examine(image: &[u8]) -> Result<Plan, Answer> {
+    let (plan, charges) = examine_rows(image)?;
+    ask_windows_hold(&plan, &charges)?;
+    let jobs = Jobs::of(&plan)?;
+    ask_streams(&plan, &jobs)?;
+    ask_buffers(&plan, &jobs)?;
+    ask_chains(&plan, &jobs)?;
+    Ok(plan)
+}
+
+/// The plan of an image in which the questions up to 10 are answered yes, 32
+/// among them, and what each window is charged.
+pub fn examine_rows(image: &[u8]) -> Result<(Plan, Vec<u32>), Answer> {
     ask_layout(image)?;
     let plan = Plan::decode(image);
     ask_references(&plan)?;
@@ -32,12 +44,8 @@ pub fn examine(image: &[u8]) -> Result<Plan, Answer> {
     let charges = charges(&plan);
     ask_windows(&plan, &charges)?;
     ask_masks(&plan)?;
-    ask_pieces(&plan, &charges)?;
-    let jobs = Jobs::of(&plan)?;
-    ask_streams(&plan, &jobs)?;
-    ask_buffers(&plan, &jobs)?;
-    ask_chains(&plan, &jobs)?;
-    Ok(plan)
+    ask(10, PIECE, &plan.pieces, |piece| piece_in_job(&plan, piece))?;
+    Ok((plan, charges))
 }
 
 fn wide(word: u32) -> u64 {
@@ -178,9 +186,8 @@ fn ask_masks(plan: &Plan) -> Result<(), Answer> {
     })
 }
 
-/// Questions 10 to 12.
-fn ask_pieces(plan: &Plan, charges: &[u32]) -> Result<(), Answer> {
-    ask(10, PIECE, &plan.pieces, |piece| piece_in_job(plan, piece))?;
+/// Questions 11 and 12.
+fn ask_windows_hold(plan: &Plan, charges: &[u32]) -> Result<(), Answer> {
     let windows = VcpuWindows::of(plan, charges);
     ask(11, PIECE, &plan.pieces, |&[task, _, start, length, ..]| {
         windows.hold(plan.tasks[task as usize][0], start, start + length)
@@ -191,7 +198,8 @@ fn ask_pieces(plan: &Plan, charges: &[u32]) -> Result<(), Answer> {
     ask_apart(12, PIECE, &pieces)
 }
 
-fn piece_in_job(plan: &Plan, &[task, k, start, length, ..]: &Piece) -> bool {
+/// Question 10 for one piece of a task that exists.
+pub fn piece_in_job(plan: &Plan, &[task, k, start, length, ..]: &Piece) -> bool {
     let [_, _, period, _, deadline, ..] = plan.tasks[task as usize];
     let release = wide(k) * wide(period);
     let due = release + wide(deadline);

@@ -8,6 +8,7 @@ pub mod boundary;
 mod charges;
 mod check;
 mod dispatch;
+pub mod drafts;
 pub mod generate;
 pub mod harness;
 mod histogram;

@@ -1,6 +1,8 @@
 //! The library's C functions, over slices. There where RD_LIB_DIR is set.
 
 use crate::boundary::Boundary;
+use crate::drafts::Drafts;
+use crate::image::Piece;
 
 extern "C" {
     fn rd_check(image: *const u8, image_len: usize) -> u64;
@@ -15,6 +17,21 @@ extern "C" {
     fn rd_start(cycle: u64, first: u32, state: *mut u8, state_len: usize) -> u32;
     fn rd_step(words: *const u8, words_len: usize, state: *mut u8, state_len: usize) -> u32;
     fn rd_step_all(words: *const u8, words_len: usize, states: *mut u8, states_len: usize) -> u32;
+    fn rd_draft_make(image: *const u8, image_len: usize, words: *mut u32, n: usize) -> u32;
+    fn rd_draft_add(
+        words: *mut u32,
+        n: usize,
+        place: u32,
+        task: u32,
+        job: u32,
+        start: u32,
+        length: u32,
+    ) -> u32;
+    fn rd_draft_remove(words: *mut u32, n: usize, place: u32) -> u32;
+    fn rd_draft_move(words: *mut u32, n: usize, place: u32, start: u32) -> u32;
+    fn rd_draft_job(words: *const u32, n: usize, task: u32, job: u32) -> u64;
+    fn rd_draft_core(words: *const u32, n: usize, core: u32) -> u64;
+    fn rd_draft_place(words: *const u32, n: usize, place: u32, piece: *mut u32, m: usize) -> u32;
 }
 
 /// The library under test.
@@ -48,5 +65,41 @@ impl Boundary for Library {
     fn step_all(&self, words: &[u8], states: &mut [u8]) -> u32 {
         let (at, length) = (states.as_mut_ptr(), states.len());
         unsafe { rd_step_all(words.as_ptr(), words.len(), at, length) }
+    }
+}
+
+// A reading's pointer, too, is one that may be written through, so that a
+// library that does is seen by what it leaves.
+impl Drafts for Library {
+    fn make(&self, image: &[u8], words: &mut [u32]) -> u32 {
+        let (at, n) = (words.as_mut_ptr(), words.len());
+        unsafe { rd_draft_make(image.as_ptr(), image.len(), at, n) }
+    }
+
+    fn add(&self, words: &mut [u32], place: u32, piece: Piece) -> u32 {
+        let [task, job, start, length] = piece;
+        let (at, n) = (words.as_mut_ptr(), words.len());
+        unsafe { rd_draft_add(at, n, place, task, job, start, length) }
+    }
+
+    fn remove(&self, words: &mut [u32], place: u32) -> u32 {
+        unsafe { rd_draft_remove(words.as_mut_ptr(), words.len(), place) }
+    }
+
+    fn shift(&self, words: &mut [u32], place: u32, start: u32) -> u32 {
+        unsafe { rd_draft_move(words.as_mut_ptr(), words.len(), place, start) }
+    }
+
+    fn job(&self, words: &mut [u32], task: u32, job: u32) -> u64 {
+        unsafe { rd_draft_job(words.as_mut_ptr(), words.len(), task, job) }
+    }
+
+    fn core(&self, words: &mut [u32], core: u32) -> u64 {
+        unsafe { rd_draft_core(words.as_mut_ptr(), words.len(), core) }
+    }
+
+    fn place(&self, words: &mut [u32], place: u32, piece: &mut [u32]) -> u32 {
+        let (at, n) = (words.as_mut_ptr(), words.len());
+        unsafe { rd_draft_place(at, n, place, piece.as_mut_ptr(), piece.len()) }
     }
 }

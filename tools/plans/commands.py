@@ -8,6 +8,7 @@ from .answers import ORDER, ask, explained, line_before, lines_of, parse, reason
 from .files import is_text, load, plan_in, read_bytes, write_whole
 from .image import encode
 from .listing import listing
+from .loads import hinders, loads
 from .ordering import in_order
 from .picture.drawing import View, near, picture
 from .troubles import Trouble, meant, trouble
@@ -42,6 +43,10 @@ def parser():
     _takes_order(command)
     command = _command(commands, "list", run_list, "print a plan's rows and what follows from them")
     command.add_argument("plan", help="image or text")
+    command = _command(commands, "loads", run_loads, "print each job's pieces against its budget and each core's against the cycle")
+    command.add_argument("plan", help="image or text")
+    _takes_order(command)
+    _asks_checker(command, default=CHECKER)
     command = _command(commands, "check", run_check, "ask the checker, and print its answer in words")
     command.add_argument("plan", help="image or text")
     _takes_order(command)
@@ -98,6 +103,20 @@ def run_text(options):
 
 def run_list(options):
     print(listing(load(options.plan)), end="")
+
+
+def run_loads(options):
+    """Prints the answer, then the loads where a draft can be made from the plan, else the row that keeps it from that."""
+    data, plan = image_and_plan(options)
+    answer = ask(options.plancheck, data)
+    print(explained(plan, answer))
+    if plan and not hinders(answer):
+        print(f"\n{loads(plan)}", end="")
+        return 0
+    if plan:
+        tell_row(plan, answer)
+    print("No loads: they need yes to questions 1 to 10 and 32, as a draft does.")
+    return 1
 
 
 def run_check(options):

@@ -172,6 +172,46 @@ class Commands(unittest.TestCase):
         run("check", EXAMPLES / "q03-gap.image", "--in-order", "--plancheck", self.recording("3 0 0", asked))
         self.assertEqual(asked.read_bytes(), (EXAMPLES / "q03-gap.image").read_bytes())
 
+    def loads(self, name, *options):
+        """The loads of an example, with the answer that the checker gives to it."""
+        line = (EXAMPLES / name).with_suffix(".lines").read_text().splitlines()[0]
+        return run("loads", EXAMPLES / name, *options, "--plancheck", self.program(line))
+
+    def test_loads(self):
+        for name in ("tunnel.txt", "case-a.image"):
+            ran = self.loads(name)
+            self.assertEqual((ran.returncode, ran.stderr), (0, ""))
+            self.assertTrue(ran.stdout.startswith("accepted (0 0 0)\n\ncycle "), ran.stdout)
+
+    def test_loads_of_plans_refused_by_later_questions(self):
+        """A draft can be made from them."""
+        for number in (*range(11, 25), *range(29, 32)):
+            for path in EXAMPLES.glob(f"q{number}-*.txt"):
+                ran = self.loads(path.name)
+                self.assertEqual(ran.returncode, 0, path.name)
+                self.assertIn(f"no to question {number}: ", ran.stdout)
+                self.assertIn("\ncores (", ran.stdout)
+
+    def test_no_loads_of_plans_refused_by_earlier_questions(self):
+        for number in (*range(1, 11), 32):
+            for path in EXAMPLES.glob(f"q{number:02}-*.image"):
+                ran = self.loads(path.name)
+                self.assertEqual(ran.returncode, 1, path.name)
+                self.assertIn(f"no to question {number}: ", ran.stdout)
+                self.assertTrue(ran.stdout.endswith("No loads: they need yes to questions 1 to 10 and 32, as a draft does.\n"))
+                self.assertNotIn("cores (", ran.stdout)
+
+    def test_no_loads_tell_the_row_and_its_line(self):
+        ran = self.loads("q10-after-due-tick.txt")
+        self.assertIn("refused (10 5 0) at piece0; no to question 10", ran.stdout)
+        self.assertIn("case-a.txt:11: this row\n", ran.stdout)
+
+    def test_loads_in_order_ask_about_the_plan_in_order(self):
+        asked = self.folder / "asked"
+        plan = EXAMPLES / "q32-pieces-by-task.txt"
+        self.assertEqual(run("loads", plan, "--in-order", "--plancheck", self.recording("0 0 0", asked)).returncode, 0)
+        self.assertEqual(asked.read_bytes(), (EXAMPLES / "equal-starts.image").read_bytes())
+
     def test_checker_without_an_answer(self):
         ran = run("check", self.put("a.txt", CASE_A), "--plancheck", self.program("hello"))
         self.assertEqual(ran.returncode, 1)

@@ -2,8 +2,8 @@
 ghost use mathlib.Core.Path.{_≡_};
 ghost use Prim.Native.Nat.{_+_};
 ghost use mathlib.Core.List.{_++_};
-ghost use Rattle.plan.specs.Questions.{rowQuestions, planQuestions, pieceQuestions, streamQuestions, bufferQuestions, chainQuestions, answerTo, answerOf};
-ghost use Rattle.plan.specs.Held.{InImage, Sound, Passed};
+ghost use Rattle.plan.specs.Questions.{planQuestions, pieceQuestions, streamQuestions, bufferQuestions, chainQuestions, answerTo, answerOf};
+ghost use Rattle.plan.specs.Held.{Sound, Passed};
 ghost use Rattle.jobs.specs.Times.{Timed};
 use plan::Answer;
 
@@ -36,22 +36,6 @@ fn ask_plan(image: &[u8]) -> Answer
     ask_messages(image, &times)
 }
 
-// Questions 5, 32 and 6, over all tables.
-fn ask_rows(image: &[u8]) -> Answer
-    requires { ⌜ InImage (now image) ⌝ }
-    ensures { λ r. ⌜ r ≡ answerTo (rowQuestions (now (image .entry))) ⌝ }
-{
-    let names = rows::ask_tables(image, 5);
-    if names.number != 0 {
-        return names;
-    }
-    let order = rows::ask_tables(image, 32);
-    if order.number != 0 {
-        return order;
-    }
-    rows::ask_tables(image, 6)
-}
-
 // The first question answered no, with its table and row; 0 0 0 where all are answered yes.
 pub fn check(image: &[u8]) -> Answer
     ensures { λ r. ⌜ r ≡ answerOf (now (image .entry)) ⌝ }
@@ -60,7 +44,7 @@ pub fn check(image: &[u8]) -> Answer
     if whole.number != 0 {
         return whole;
     }
-    let rows = ask_rows(image);
+    let rows = rows::ask(image);
     if rows.number != 0 {
         return rows;
     }

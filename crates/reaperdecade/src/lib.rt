@@ -1,10 +1,14 @@
-// The C boundary (paper 01, "What the product covers"): what the load tool calls, over numbers and bytes. Any bytes are taken;
-// include/reaperdecade.h declares the functions for C.
+// The C boundary (paper 01, "What the product covers"): what the load tool calls, over numbers and bytes, and what a planner's tool calls, over
+// words. Any bytes and words are taken; include/reaperdecade.h declares the functions for C.
 ghost use mathlib.Core.Path.{_≡_};
+ghost use Prim.Native.Nat.{_+_, _*_, _^_};
 ghost use Rattle.plan.specs.Boundary.{checkNumber, buildNumber, buildBytes, startNumber, startBytes, stepNumber, stepBytes, stepAllNumber, stepAllBytes};
 ghost use Rattle.writing.specs.AllTables.{allNumber, allBytes};
+ghost use Rattle.drafts.specs.Edits.{pieceOf, makeNumber, makeWords, addNumber, addWords, removeNumber, removeWords, moveNumber, moveWords, jobNumber, jobValue, coreNumber, coreValue, placeNumber, placeLeaves};
 use packing::packed;
 use plan::LaneState;
+use plan::Piece;
+use readings::Total;
 use records::move_all;
 use records::move_record;
 use records::number_of;
@@ -79,4 +83,81 @@ pub extern "C" fn rd_build_all(image: &[u8], words: &mut [u8]) -> u64
     ensures { λ r. ⌜ (r ≡ allNumber (now (image .entry)) (now (words .entry))) × (now (words .exit) ≡ allBytes (now (image .entry)) (now (words .entry))) ⌝ }
 {
     packed(storing::build_all(image, words))
+}
+
+// Makes a draft of an image in lent words: 1 to 5, 32, 6 to 10, then 34. Gives 0, or the number of a refusal, which changes no word; no word
+// past the first 32,768 changes.
+#[no_mangle]
+pub extern "C" fn rd_draft_make(image: &[u8], words: &mut [u32]) -> u32
+    ensures { λ r. ⌜ (r ≡ makeNumber (now (image .entry)) (now (words .entry))) × (now (words .exit) ≡ makeWords (now (image .entry)) (now (words .entry))) ⌝ }
+{
+    making::make(image, words)
+}
+
+// Adds a piece at a place: 33, 5, 10, then 34. A refusal changes no word.
+#[no_mangle]
+pub extern "C" fn rd_draft_add(
+    words: &mut [u32],
+    place: u32,
+    task: u32,
+    job: u32,
+    start: u32,
+    ticks: u32,
+) -> u32
+    ensures { λ r. ⌜ (r ≡ addNumber (now (words .entry)) place (pieceOf task job start ticks)) × (now (words .exit) ≡ addWords (now (words .entry)) place (pieceOf task job start ticks)) ⌝ }
+{
+    let piece = Piece {
+        task: task,
+        job: job,
+        start: start,
+        length: ticks,
+    };
+    edits::add_piece(words, place, piece)
+}
+
+// Removes the piece at a place: 33. A refusal changes no word.
+#[no_mangle]
+pub extern "C" fn rd_draft_remove(words: &mut [u32], place: u32) -> u32
+    ensures { λ r. ⌜ (r ≡ removeNumber (now (words .entry)) place) × (now (words .exit) ≡ removeWords (now (words .entry)) place) ⌝ }
+{
+    edits::remove_piece(words, place)
+}
+
+// Moves the piece at a place to another start: 33, then 10. A refusal changes no word.
+#[no_mangle]
+pub extern "C" fn rd_draft_move(words: &mut [u32], place: u32, start: u32) -> u32
+    ensures { λ r. ⌜ (r ≡ moveNumber (now (words .entry)) place start) × (now (words .exit) ≡ moveWords (now (words .entry)) place start) ⌝ }
+{
+    edits::move_piece(words, place, start)
+}
+
+// The number of a reading and the total read, in one number.
+fn total_in(total: Total) -> u64
+    ensures { λ r. ⌜ r ≡ total .number + 2 ^ 32 * total .value ⌝ }
+{
+    total.number as u64 + 4294967296 * total.value as u64
+}
+
+// The piece total of a job: 33, 5, then 10; as number + 2^32 × total.
+#[no_mangle]
+pub extern "C" fn rd_draft_job(words: &[u32], task: u32, job: u32) -> u64
+    ensures { λ r. ⌜ r ≡ jobNumber (now (words .entry)) task job + 2 ^ 32 * jobValue (now (words .entry)) task job ⌝ }
+{
+    total_in(readings::read_job(words, task, job))
+}
+
+// The total of a core's piece ticks: 33, then 5; as number + 2^32 × total.
+#[no_mangle]
+pub extern "C" fn rd_draft_core(words: &[u32], core: u32) -> u64
+    ensures { λ r. ⌜ r ≡ coreNumber (now (words .entry)) core + 2 ^ 32 * coreValue (now (words .entry)) core ⌝ }
+{
+    total_in(readings::read_core(words, core))
+}
+
+// The four words of the piece at a place: 33, then 34. No other word changes.
+#[no_mangle]
+pub extern "C" fn rd_draft_place(words: &[u32], place: u32, piece: &mut [u32]) -> u32
+    ensures { λ r. ⌜ (r ≡ placeNumber (now (words .entry)) place (now (piece .entry))) × (now (piece .exit) ≡ placeLeaves (now (words .entry)) place (now (piece .entry))) ⌝ }
+{
+    readings::read_place(words, place, piece)
 }

@@ -2,7 +2,7 @@
 ghost use mathlib.Core.Path.{_≡_};
 ghost use Prim.Native.Nat.{_<_};
 ghost use Rattle.plan.specs.Image.{tables, rows};
-ghost use Rattle.plan.specs.Questions.{eachTable, answerTo};
+ghost use Rattle.plan.specs.Questions.{eachTable, rowQuestions, answerTo};
 ghost use Rattle.plan.specs.Search.{firstNo};
 ghost use Rattle.plan.specs.Held.{InImage};
 ghost use Rattle.rows.specs.Tests.{rowTest};
@@ -49,7 +49,7 @@ fn first_no(image: &[u8], number: u32, table: Table) -> Found
 }
 
 // Question 5, 32 or 6, over all tables.
-pub fn ask_tables(image: &[u8], number: u32) -> Answer
+fn ask_tables(image: &[u8], number: u32) -> Answer
     requires { ⌜ InImage (now image) ⌝ }
     ensures { λ r. ⌜ r ≡ answerTo (eachTable (now (image .entry)) number tables (rowTest (now (image .entry)) number)) ⌝ }
 {
@@ -65,4 +65,20 @@ pub fn ask_tables(image: &[u8], number: u32) -> Answer
         i += 1;
     }
     plan::accepted()
+}
+
+// Questions 5, 32 and 6, over all tables.
+pub fn ask(image: &[u8]) -> Answer
+    requires { ⌜ InImage (now image) ⌝ }
+    ensures { λ r. ⌜ r ≡ answerTo (rowQuestions (now (image .entry))) ⌝ }
+{
+    let names = ask_tables(image, 5);
+    if names.number != 0 {
+        return names;
+    }
+    let order = ask_tables(image, 32);
+    if order.number != 0 {
+        return order;
+    }
+    ask_tables(image, 6)
 }

@@ -1,10 +1,8 @@
--- What this crate's own functions assume and give, in the words of the definitions.
+-- What this crate's own functions assume, in the words of the definitions.
 use Prim.Native.Nat.{ℕ, _<_}
-use mathlib.Core.Path.{_≡_}
 use mathlib.Core.Logic.{_≢_}
 use mathlib.Core.List.{List}
-use Rattle.plan.specs.declared.Answer.{Answer}
-use Rattle.plan.specs.Questions.{Question, pieceQuestions, answerTo}
+use Rattle.plan.specs.Questions.{pieceQuestions}
 use Rattle.plan.specs.Held.{Sound, Passed}
 use Rattle.charges.specs.Charges.{Charged}
 
@@ -18,8 +16,3 @@ pub record Asking (s charges : List ℕ) (i : ℕ) : Type 0 where
 -- one that asks of a row by itself: not 8, 11 or 12
 abbrev pub RowAsked : ℕ → Type 0
 RowAsked i = (i ≢ 1) × ((i ≢ 4) × (i ≢ 5))
-
--- the first i questions are asked: all are passed, or the answer is the first that is not
-pub record AskedTo (qs : List Question) (i : ℕ) (a : Answer) : Type 0 where
-  pub passed : a .number ≡ 0 → Passed qs i
-  pub refused : a .number ≢ 0 → a ≡ answerTo qs

@@ -1,14 +1,14 @@
 // Questions 7 to 13 (paper 01, "The questions"): windows, tasks and pieces.
 ghost use mathlib.Core.Path.{_≡_};
-ghost use Prim.Native.Nat.{_<_};
-ghost use lib.ListN.{length};
+ghost use Prim.Native.Nat.{_<_, _≤_};
+ghost use lib.ListN.{length, take};
 ghost use Rattle.plan.specs.declared.Table.the-variants.{Tasks, Windows, Pieces};
 ghost use Rattle.plan.specs.Image.{rows};
 ghost use Rattle.plan.specs.Questions.{questionAt, pieceQuestions, answerTo};
 ghost use Rattle.plan.specs.Held.{Sound, Passed, Listed, refusing};
 ghost use Rattle.charges.specs.Charges.{Charged};
 ghost use Rattle.jobs.specs.Times.{timesWords, Timed};
-ghost use Rattle.windows.specs.Asking.{Asking, RowAsked, AskedTo};
+ghost use Rattle.windows.specs.Asking.{Asking, RowAsked};
 use budgets::first_off_budget;
 use clashes::first_clash;
 use inside::first_outside;
@@ -119,13 +119,13 @@ fn first_no(image: &[u8], charges: &[u32], place: u32) -> Found
     }
 }
 
-// Questions 7 to 12, in this order, with the charges at hand.
-fn ask_pieces(image: &[u8], charges: &[u32]) -> Answer
-    requires { ⌜ Sound (now image) × Charged (now image) (now charges) ⌝ }
-    ensures { λ r. ⌜ AskedTo (pieceQuestions (now (image .entry))) 6 r ⌝ }
+// Questions from 7 on to one that is not asked, at the latest 13, in this order, with the charges at hand.
+fn ask_pieces(image: &[u8], charges: &[u32], end: u32) -> Answer
+    requires { ⌜ (Sound (now image) × Charged (now image) (now charges)) × (end ≤ 6) ⌝ }
+    ensures { λ r. ⌜ r ≡ answerTo (take end (pieceQuestions (now (image .entry)))) ⌝ }
 {
     let mut place: u32 = 0;
-    while place < TASK_BUDGET {
+    while place < end {
         match first_no(image, charges, place) {
             Found::At(row) => {
                 return refusal(question_at(place), row);
@@ -156,9 +156,19 @@ pub fn ask(image: &[u8], times: &mut [u32]) -> Answer
 {
     let mut charges = [0u32; charges::WORDS];
     charges::gather(image, &mut charges);
-    let pieces = ask_pieces(image, &charges);
+    let pieces = ask_pieces(image, &charges, TASK_BUDGET);
     if pieces.number != 0 {
         return pieces;
     }
     ask_budgets(image, times)
+}
+
+// Questions 7 to 10: all that asks of windows, masks and pieces by themselves.
+pub fn ask_fitting(image: &[u8]) -> Answer
+    requires { ⌜ Sound (now image) ⌝ }
+    ensures { λ r. ⌜ r ≡ answerTo (take 4 (pieceQuestions (now (image .entry)))) ⌝ }
+{
+    let mut charges = [0u32; charges::WORDS];
+    charges::gather(image, &mut charges);
+    ask_pieces(image, &charges, PIECE_INSIDE)
 }

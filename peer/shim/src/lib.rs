@@ -3,6 +3,7 @@
 use std::slice::{from_raw_parts, from_raw_parts_mut};
 
 use peer::boundary::{Boundary, Peer};
+use peer::drafts::{Drafts, Fault, Standin};
 
 /// # Safety
 /// The pointer leads to so many bytes.
@@ -73,4 +74,86 @@ pub unsafe extern "C" fn rd_step_all(
 ) -> u32 {
     let words = from_raw_parts(words, words_len);
     Peer.step_all(words, from_raw_parts_mut(states, states_len))
+}
+
+/// The drafts, wrong in the way that RD_DRAFT_FAULT names, if it is set.
+fn drafts() -> Standin {
+    let named = std::env::var("RD_DRAFT_FAULT").ok();
+    Standin(named.map(|name| {
+        let mut faults = Fault::ALL.iter().copied();
+        let fault = faults.find(|fault| format!("{fault:?}") == name);
+        fault.unwrap_or_else(|| panic!("RD_DRAFT_FAULT is one of {:?}", Fault::ALL))
+    }))
+}
+
+/// # Safety
+/// The pointers lead to so many bytes and words, apart from each other.
+#[no_mangle]
+pub unsafe extern "C" fn rd_draft_make(
+    image: *const u8,
+    image_len: usize,
+    words: *mut u32,
+    n: usize,
+) -> u32 {
+    let image = from_raw_parts(image, image_len);
+    drafts().make(image, from_raw_parts_mut(words, n))
+}
+
+/// # Safety
+/// The pointer leads to so many words.
+#[no_mangle]
+pub unsafe extern "C" fn rd_draft_add(
+    words: *mut u32,
+    n: usize,
+    place: u32,
+    task: u32,
+    job: u32,
+    start: u32,
+    length: u32,
+) -> u32 {
+    let piece = [task, job, start, length];
+    drafts().add(from_raw_parts_mut(words, n), place, piece)
+}
+
+/// # Safety
+/// The pointer leads to so many words.
+#[no_mangle]
+pub unsafe extern "C" fn rd_draft_remove(words: *mut u32, n: usize, place: u32) -> u32 {
+    drafts().remove(from_raw_parts_mut(words, n), place)
+}
+
+/// # Safety
+/// The pointer leads to so many words.
+#[no_mangle]
+pub unsafe extern "C" fn rd_draft_move(words: *mut u32, n: usize, place: u32, start: u32) -> u32 {
+    drafts().shift(from_raw_parts_mut(words, n), place, start)
+}
+
+/// # Safety
+/// The pointer leads to so many words, which may be written.
+#[no_mangle]
+pub unsafe extern "C" fn rd_draft_job(words: *mut u32, n: usize, task: u32, job: u32) -> u64 {
+    drafts().job(from_raw_parts_mut(words, n), task, job)
+}
+
+/// # Safety
+/// The pointer leads to so many words, which may be written.
+#[no_mangle]
+pub unsafe extern "C" fn rd_draft_core(words: *mut u32, n: usize, core: u32) -> u64 {
+    drafts().core(from_raw_parts_mut(words, n), core)
+}
+
+/// # Safety
+/// The pointers lead to so many words, which may be written, apart from each
+/// other.
+#[no_mangle]
+pub unsafe extern "C" fn rd_draft_place(
+    words: *mut u32,
+    n: usize,
+    place: u32,
+    piece: *mut u32,
+    m: usize,
+) -> u32 {
+    let piece = from_raw_parts_mut(piece, m);
+    drafts().place(from_raw_parts_mut(words, n), place, piece)
 }

@@ -1,12 +1,13 @@
 //! Writes an image to standard output.
 //!
 //! Arguments: a shape (full), or `mutant`, and a seed (1). Or `text`, a seed
-//! (1) and the number (0) of an image that `texts` hands to a program.
+//! (1) and the number (0) of an image that `texts` hands to a program. Or
+//! `draft`, a seed (1) and the number (0) of a draft of `drafts`.
 
 use std::io::{self, Write};
 
 use peer::generate::{Shape, SHAPES};
-use peer::{mutate, texts, Rng};
+use peer::{drafts, mutate, texts, Rng};
 
 fn main() -> io::Result<()> {
     let mut arguments = std::env::args().skip(1);
@@ -20,6 +21,7 @@ fn image(what: &str, seed: u64, number: u64) -> Vec<u8> {
     match what {
         "mutant" => mutate::mutant(rng),
         "text" => texts::image(seed, number),
+        "draft" => drafts::image(seed, number),
         name => shape(name)(rng).encode(),
     }
 }
@@ -29,7 +31,7 @@ fn shape(name: &str) -> Shape {
         Some((_, shape)) => *shape,
         None => {
             let names = SHAPES.map(|(name, _)| name).join(" ");
-            panic!("shapes: {names} mutant text")
+            panic!("shapes: {names} mutant text draft")
         }
     }
 }

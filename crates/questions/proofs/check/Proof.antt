@@ -1,40 +1,30 @@
 use mathlib.Core.Path.{sym, ap, _∙_}
 use Rattle.plan.specs.declared.Answer.{Answer}
-use Rattle.questions.proofs.Joining.{image-held, all-held, stop-image, stop-rows, to-plan}
+use Rattle.rows.proofs.Joining.{image-held, all-held}
+use Rattle.questions.proofs.Joining.{stop-image, stop-rows, to-plan}
 use borrow.Author.Needs.{needs}
 use Rattle.questions.proofs.check.Statement.{statement}
 use Rattle.questions.proofs.check.Tie as tie
-use Rattle.questions.proofs.check.Reads as reads
-use Rattle.questions.proofs.check.Lts as lts
-use Rattle.layout.proofs.ask_image.Reads as ask-image-reads
-use Rattle.questions.proofs.ask_plan.Reads as ask-plan-reads
-use Rattle.questions.proofs.ask_rows.Reads as ask-rows-reads
 
--- src/lib.rt:59:9
 ask-image-requires : tie.Need-ask-image-requires
 ask-image-requires c κs = search needs
 
--- src/lib.rt:61:9
 returns : tie.Need-returns
 returns c = let s = c .before .before .before .before .args .image .now in c .before .before .ask-image .ensures ∙ sym (stop-image s (λ z. c .if1 .taken (ap (λ (x : Answer). x .number) (c .before .before .ask-image .ensures) ∙ z)))
 
--- src/lib.rt:63:9
-ask-rows-requires : tie.Need-ask-rows-requires
-ask-rows-requires c κs = let s = c .before .before .before .before .args .image .now in image-held s (sym (ap (λ (x : Answer). x .number) (c .before .before .ask-image .ensures)) ∙ c .if1 .left)
+ask-requires : tie.Need-ask-requires
+ask-requires c κs = let s = c .before .before .before .before .args .image .now in image-held s (sym (ap (λ (x : Answer). x .number) (c .before .before .ask-image .ensures)) ∙ c .if1 .left)
 
--- src/lib.rt:65:9
 returns-2 : tie.Need-returns-2
-returns-2 c = let s = c .before .before .before .before .before .before .before .args .image .now in c .before .before .ask-rows .ensures ∙ sym (stop-rows s (sym (ap (λ (x : Answer). x .number) (c .before .before .before .before .before .ask-image .ensures)) ∙ c .before .before .before .if1 .left) (λ z. c .if2 .taken (ap (λ (x : Answer). x .number) (c .before .before .ask-rows .ensures) ∙ z)))
+returns-2 c = let s = c .before .before .before .before .before .before .before .args .image .now in c .before .before .ask .ensures ∙ sym (stop-rows s (sym (ap (λ (x : Answer). x .number) (c .before .before .before .before .before .ask-image .ensures)) ∙ c .before .before .before .if1 .left) (λ z. c .if2 .taken (ap (λ (x : Answer). x .number) (c .before .before .ask .ensures) ∙ z)))
 
--- src/lib.rt:67:5
 ask-plan-requires : tie.Need-ask-plan-requires
-ask-plan-requires c κs = let s = c .before .before .before .before .before .before .before .args .image .now in all-held s (sym (ap (λ (x : Answer). x .number) (c .before .before .before .before .before .ask-image .ensures)) ∙ c .before .before .before .if1 .left) (sym (ap (λ (x : Answer). x .number) (c .before .before .ask-rows .ensures)) ∙ c .if2 .left)
+ask-plan-requires c κs = let s = c .before .before .before .before .before .before .before .args .image .now in all-held s (sym (ap (λ (x : Answer). x .number) (c .before .before .before .before .before .ask-image .ensures)) ∙ c .before .before .before .if1 .left) (sym (ap (λ (x : Answer). x .number) (c .before .before .ask .ensures)) ∙ c .if2 .left)
 
--- src/lib.rt:56:1
 returns-3 : tie.Need-returns-3
-returns-3 c = let s = c .before .before .before .before .before .before .before .before .args .image .now in c .ask-plan .ensures ∙ sym (to-plan s (sym (ap (λ (x : Answer). x .number) (c .before .before .before .before .before .before .ask-image .ensures)) ∙ c .before .before .before .before .if1 .left) (sym (ap (λ (x : Answer). x .number) (c .before .before .before .ask-rows .ensures)) ∙ c .before .if2 .left))
+returns-3 c = let s = c .before .before .before .before .before .before .before .before .args .image .now in c .ask-plan .ensures ∙ sym (to-plan s (sym (ap (λ (x : Answer). x .number) (c .before .before .before .before .before .before .ask-image .ensures)) ∙ c .before .before .before .before .if1 .left) (sym (ap (λ (x : Answer). x .number) (c .before .before .before .ask .ensures)) ∙ c .before .if2 .left))
 
 pub check-spec : {M : Type 1} → statement M
 check-spec =
     tie.close
-    (tie.spec ask-image-requires returns ask-rows-requires returns-2 ask-plan-requires returns-3)
+    (tie.spec ask-image-requires returns ask-requires returns-2 ask-plan-requires returns-3)

@@ -1,33 +1,26 @@
 use borrow.Author.Needs.{needs}
 use Prim.Native.Nat.{_-_, _≤_}
-use mathlib.Core.Path.{_≡_, sym, ap, subst, _∙_}
+use mathlib.Core.Path.{sym, _∙_}
 use native.Mathlib.Numerals.{add-one}
 use native.Mathlib.Omega.{arith}
-use Rattle.plan.specs.declared.Answer.{Answer}
 use Rattle.plan.specs.Questions.{pieceQuestions}
 use Rattle.plan.specs.Held.{Passed}
-use Rattle.plan.proofs.Asking.{passed-none, passed-more, refused-at}
-use Rattle.windows.proofs.Asked.{asked-some}
+use Rattle.plan.proofs.Asking.{passed-none, passed-more}
+use Rattle.windows.proofs.Asked.{refused-early, passed-early}
 use Rattle.windows.proofs.ask_pieces.Statement.{statement}
 use Rattle.windows.proofs.ask_pieces.Tie as tie
-use Rattle.windows.proofs.ask_pieces.Reads as reads
-use Rattle.windows.proofs.ask_pieces.Lts as lts
-use Rattle.plan.proofs.accepted.Reads as accepted-reads
-use Rattle.tables.proofs.refusal.Reads as refusal-reads
-use Rattle.windows.proofs.first_no.Reads as first-no-reads
-use Rattle.windows.proofs.question_at.Reads as question-at-reads
 
 abbrev Inv-loop : tie.InvT-loop
-Inv-loop image charges place₀ place = (place ≤ 6) × Passed (pieceQuestions image) place
+Inv-loop image charges end place₀ place = (place ≤ end) × Passed (pieceQuestions image) place
 
 abbrev μ-loop : tie.MeasureT-loop
-μ-loop image charges place₀ place = 6 - place
+μ-loop image charges end place₀ place = end - place
 
 loop-holds : tie.Need-loop-holds Inv-loop μ-loop
 loop-holds c = (omega arith, passed-none (pieceQuestions (c .before .before .args .image .now)))
 
 first-no-requires : tie.Need-first-no-requires Inv-loop μ-loop
-first-no-requires c κs = let p = c .before .before .before .before .pre in let l = c .before .loop in record { sound = p .0; charged = p .1; listed = omega arith; passed = l .inv .1 }
+first-no-requires c κs = let p = c .before .before .before .before .pre in let l = c .before .loop in record { sound = p .0 .0; charged = p .0 .1; listed = omega (arith, p .1); passed = l .inv .1 }
 
 enum-known-row : tie.Need-enum-known-row Inv-loop μ-loop
 enum-known-row c = search needs
@@ -39,8 +32,7 @@ refusal-requires : tie.Need-refusal-requires Inv-loop μ-loop
 refusal-requires c κs = tt
 
 returns : tie.Need-returns Inv-loop μ-loop
-unfolding pieceQuestions
-returns c = let l = c .before .before .before .before .before .before .before .loop in let s = c .before .before .before .before .before .before .before .before .before .before .args .image .now in let e = c .refusal .ensures ∙ refused-at pieceQuestions s (l .place) _ _ (c .before .question-at .ensures) (l .inv .1) (omega arith) (sym (c .before .before .before .before .before .first-no .ensures) ∙ c .before .before .before .row .given .1) in record { passed = λ z. absurd (asked-some s (l .place) _ (omega arith) (c .before .question-at .ensures) (sym (ap (λ (x : Answer). x .number) (c .refusal .ensures)) ∙ z)); refused = λ _. e }
+returns c = let l = c .before .before .before .before .before .before .before .loop in let a = c .before .before .before .before .before .before .before .before .before .before .args in let p = c .before .before .before .before .before .before .before .before .before .before .pre in c .refusal .ensures ∙ refused-early (a .image .now) (a .end) (p .1) (l .place) _ _ (omega arith) (c .before .question-at .ensures) (l .inv .1) (sym (c .before .before .before .before .before .first-no .ensures) ∙ c .before .before .before .row .given .1)
 
 enum-told : tie.Need-enum-told Inv-loop μ-loop
 enum-told c = search needs
@@ -58,8 +50,7 @@ accepted-requires : tie.Need-accepted-requires Inv-loop μ-loop
 accepted-requires c κs = tt
 
 returns-2 : tie.Need-returns-2 Inv-loop μ-loop
-unfolding pieceQuestions
-returns-2 c = let l = c .before .before .loop in let q = pieceQuestions (c .before .before .before .before .before .args .image .now) in let e : l .place ≡ 6 = omega arith in record { passed = λ _. subst (Passed q) e (l .inv .1); refused = λ z. absurd (z (ap (λ (x : Answer). x .number) (c .accepted .ensures))) }
+returns-2 c = let l = c .before .before .loop in let a = c .before .before .before .before .before .args in c .accepted .ensures ∙ passed-early (a .image .now) (a .end) (c .before .before .before .before .before .pre .1) (l .place) (omega arith) (l .inv .1)
 
 pub ask-pieces-spec : {M : Type 1} → statement M
 ask-pieces-spec =

@@ -1,0 +1,15 @@
+pub mod Storing
+pub mod Heads
+pub mod Summing
+pub mod Editing
+pub mod Asking
+pub mod Making
+pub mod Bounds
+pub mod Stored
+pub mod Keeping
+pub mod Answers
+pub mod Claims
+pub mod Checked
+pub mod First
+pub mod Changing
+pub mod Later

@@ -1,0 +1,4 @@
+pub mod Drafts
+pub mod Edits
+pub mod Claim
+pub mod Cases

@@ -1,0 +1,5 @@
+pub mod OnePass
+pub mod Ranks
+pub mod Gathering
+pub mod Climbing
+pub mod Passing
