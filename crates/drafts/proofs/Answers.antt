@@ -19,15 +19,16 @@ use Rattle.plan.proofs.Searching.{and-true}
 use Rattle.drafts.specs.Drafts.{places, isOf, draftCores, taskCore, coreTotal, pieceAt, isFree, jobSum, coreSum, isDraft, holdsPiece}
 use Rattle.drafts.specs.Edits.{numberOf, leaves, gives, pieceWords, pieceOf, movedTo, addNumber, removeNumber, moveNumber, placeNumber, placeLeaves, jobNumber, jobValue, coreNumber, coreValue}
 use Rattle.drafts.specs.Claim.{meetsTen, isHeld, askedOf, adds, removes, moves}
-use Rattle.drafts.proofs.Heads.{r-draft, task-exists, sum-same, cond-none}
-use Rattle.drafts.proofs.Asking.{asked-yes, asked-no, leaves-old}
+use Rattle.drafts.proofs.Heads.{r-draft, task-exists, sum-same, cond-none, formed-of, held-fits}
+use Rattle.drafts.proofs.Asking.{asked-yes, asked-no, leaves-old, gives-none, not-zero}
+use Rattle.drafts.proofs.Editing.{task-moved}
 use Rattle.drafts.proofs.Stored.{stored-sum}
 use Rattle.drafts.proofs.Making.{five-of, ten-of, jobs-of}
-use Rattle.drafts.proofs.Keeping.{Kept, there-is, fits-there, same-task-moved}
+use Rattle.drafts.proofs.Keeping.{Kept, there-is}
 
--- a number that is not 0
-not-zero : (n : ℕ) → not (eqb n 0) ≡ ltb 0 n
-not-zero n = go (ℕ-discrete n 0)
+-- a length that is not 0
+some-ticks : (n : ℕ) → not (eqb n 0) ≡ ltb 0 n
+some-ticks n = go (ℕ-discrete n 0)
   where
     go : Dec (n ≡ 0) → not (eqb n 0) ≡ ltb 0 n
     go (yes e) = rw (eq-eqb n 0 e, le-ltb 0 n (omega arith)) refl
@@ -57,7 +58,7 @@ module _ (s w : List ℕ) (at : ℕ → Piece) (k : Kept s w at) where
   held-same p = rw (k .draft) (go (decLt p places))
     where
       go : Dec (p < places) → ltb p places && not (isFree w p) ≡ ltb p places && ltb 0 (at p .length)
-      go (yes l) = rw (free-same p l, not-zero (at p .length)) refl
+      go (yes l) = rw (free-same p l, some-ticks (at p .length)) refl
       go (no l) = rw (le-ltb p places (omega arith)) refl
 
   held-there : (p : ℕ) → isHeld at p ≡ true → (p < places) × (isFree w p ≡ false)
@@ -88,7 +89,7 @@ module _ (s w : List ℕ) (at : ℕ → Piece) (k : Kept s w at) where
   unfolding moveNumber askedOf
   move-asked p start =
       asked-same 33 _ _ _ _ (held-same p)
-      (λ e. let h = held-there p e in let t = same-task-moved s w at k p start (fits-there s w at k p (h .0) (h .1) .0) in
+      (λ e. let h = held-there p e in let t = task-moved w (pieceAt w p) start (held-fits w (formed-of w (k .draft)) p (h .0) (h .1) .0) in
       asked-same 10 _ _ [] []
       (ten-of s w (k .head) (k .sound) (movedTo (pieceAt w p) start) (sym (five-of s w (k .head) (movedTo (pieceAt w p) start)) ∙ t)
       ∙ ap (meetsTen s) (same-moved (pieceAt w p) (at p) start (there-is s w at k p (h .0) (h .1))))
@@ -133,7 +134,7 @@ module _ (s w : List ℕ) (at : ℕ → Piece) (k : Kept s w at) where
       go p l (yes e) = cond-none (eqb (taskCore w (pieceAt w p .task)) c) _ (k .agree p l .long ∙ e) ∙ sym (cond-none (eqb (coreOf s (at p .task)) c) _ e)
       go p l (no e) =
           let q = k .agree p l .same (omega arith) in
-          let m = task-exists w p (fits-there s w at k p l (held p l e)) in
+          let m = task-exists w p (held-fits w (formed-of w (k .draft)) p l (held p l e)) in
           let n : at p .task < rows s Tasks = subst (λ (x : ℕ). x < rows s Tasks) (ap (λ (z : Piece). z .task) q) (omega (arith, k .head .tasks)) in
           rw (q, k .head .core-of (at p .task) n) refl
 
@@ -152,10 +153,6 @@ module _ (s w : List ℕ) (at : ℕ → Piece) (k : Kept s w at) where
   unfolding coreNumber
   core-asked c = asked-yes 33 _ _ (k .draft) ∙ asked-same 5 _ _ [] [] (ap (ltb c) (k .head .cores)) (λ _. refl)
 
-  gives-none : (n u v : ℕ) → n ≢ 0 → gives n u ≡ gives n v
-  unfolding gives
-  gives-none n u v e = rw (ne-eqb n 0 e) refl
-
   pub core-given : (c : ℕ) → coreValue w c ≡ gives (coreNumber w c) (sum places (λ p. cond (eqb (coreOf s (at p .task)) c) (at p .length) 0))
   unfolding coreValue
   core-given c = go (decLt c (draftCores w))
@@ -165,4 +162,4 @@ module _ (s w : List ℕ) (at : ℕ → Piece) (k : Kept s w at) where
       go (yes l) = ap (gives (coreNumber w c)) (r-draft w .0 (k .draft) .3 c l .1 ∙ core-sums c)
       go (no l) =
           let z : coreNumber w c ≡ 5 = core-asked c ∙ asked-no 5 _ [] (le-ltb c (rows s Cores) (omega (arith, k .head .cores))) in
-          gives-none _ _ _ (λ y. omega arith)
+          gives-none _ _ (not-zero z) ∙ sym (gives-none _ _ (not-zero z))

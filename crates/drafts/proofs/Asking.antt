@@ -1,5 +1,5 @@
 -- The number of a call: 0 exactly if every question is answered yes.
-use Prim.Native.Nat.{ℕ, _≤_}
+use Prim.Native.Nat.{ℕ, suc, _≤_}
 use mathlib.Core.Path.{_≡_, refl, sym, ap, _∙_}
 use mathlib.Core.Logic.{_≢_}
 use mathlib.Core.Bool.{Bool, true, false, true≢false}
@@ -11,7 +11,7 @@ use Rattle.plan.specs.declared.Answer.{Answer}
 use Rattle.plan.specs.Search.{firstNo}
 use Rattle.plan.specs.Questions.{Question, whole, answerTo}
 use Rattle.plan.proofs.Asking.{Real, then-asked, stopped-first}
-use Rattle.drafts.specs.Edits.{numberOf, leaves}
+use Rattle.drafts.specs.Edits.{numberOf, leaves, gives}
 
 pub asked-none : numberOf [] ≡ 0
 unfolding numberOf answerTo
@@ -47,3 +47,16 @@ leaves-new n new w e = rw (eq-eqb n 0 e) refl
 pub leaves-old : (n : ℕ) (new w : List ℕ) → n ≢ 0 → leaves n new w ≡ w
 unfolding leaves
 leaves-old n new w e = rw (ne-eqb n 0 e) refl
+
+-- and what a reading gives
+pub gives-value : (n v : ℕ) → n ≡ 0 → gives n v ≡ v
+unfolding gives
+gives-value n v e = rw (eq-eqb n 0 e) refl
+
+pub gives-none : (n v : ℕ) → n ≢ 0 → gives n v ≡ 0
+unfolding gives
+gives-none n v e = rw (ne-eqb n 0 e) refl
+
+-- a number of a question
+pub not-zero : {n k : ℕ} → n ≡ suc k → n ≢ 0
+not-zero e z = omega arith

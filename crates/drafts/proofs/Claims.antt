@@ -8,17 +8,17 @@ use native.Mathlib.Decide.{ℕ-discrete}
 use native.Mathlib.Omega.{arith}
 use lib.ListN.{length}
 use lib.Dec.{eqb}
-use borrow.Author.Tests.{ltb-true, lt-leb, eq-eqb, ne-eqb}
+use borrow.Author.Tests.{ltb-true, lt-leb}
 use Rattle.plan.specs.declared.Piece.{Piece}
 use Rattle.plan.specs.declared.Table.the-variants.{Pieces}
 use Rattle.plan.specs.Image.{shape}
 use Rattle.plan.specs.Questions.{names, pieceFits, pieceEnd}
-use Rattle.drafts.specs.Drafts.{draftWords, places, draftCores, jobSum, coreSum, pieceAt, isFree, hasTask, isDraft, holdsPiece}
-use Rattle.drafts.specs.Edits.{leaves, gives, noPiece, pieceOf, movedTo, madePiece, makeNumber, makeWords, addNumber, addWords, removeNumber, removeWords, moveNumber, moveWords, placeNumber, placeLeaves, jobNumber, jobValue, coreNumber, coreValue}
+use Rattle.drafts.specs.Drafts.{draftWords, places, draftCores, jobSum, coreSum, pieceAt, isDraft, holdsPiece}
+use Rattle.drafts.specs.Edits.{leaves, noPiece, pieceOf, movedTo, madePiece, makeNumber, makeWords, addNumber, addWords, removeNumber, removeWords, moveNumber, moveWords, placeNumber, placeLeaves, jobNumber, jobValue, coreNumber, coreValue}
 use Rattle.drafts.specs.Claim.{Edit, adds, removes, moves, editNumber, edited, afterEdits, meetsFive, meetsTen, askedOf, heldAfter, heldAfterAll, DraftOf, TotalsKept, RowsArePlaces, SameQuestions, TrueTotals, NoDraft, TooFew, RefusedKeeps}
-use Rattle.drafts.proofs.Heads.{Formed, Fits, r-draft, formed-of, true-place}
-use Rattle.drafts.proofs.Asking.{asked-no, asked-zero, leaves-new, leaves-old}
-use Rattle.drafts.proofs.Editing.{put-draft, freed-draft}
+use Rattle.drafts.proofs.Heads.{Formed, r-draft, formed-of, held-fits}
+use Rattle.drafts.proofs.Asking.{asked-no, asked-zero, leaves-new, leaves-old, gives-value, gives-none}
+use Rattle.drafts.proofs.Editing.{task-moved, put-draft, freed-draft}
 use Rattle.drafts.proofs.Stored.{stored-sum}
 use Rattle.drafts.proofs.Making.{shown}
 use Rattle.drafts.proofs.Keeping.{Kept, added, removed, moved, kept-add, kept-remove, kept-move, kept-made}
@@ -69,24 +69,9 @@ same-questions s i = (refl, refl)
 
 -- ---- any words
 
-gives-value : (n v : ℕ) → n ≡ 0 → gives n v ≡ v
-unfolding gives
-gives-value n v e = rw (eq-eqb n 0 e) refl
-
-gives-none : (n v : ℕ) → 0 < n → gives n v ≡ 0
-unfolding gives
-gives-none n v l = rw (ne-eqb n 0 (λ (z : n ≡ 0). omega arith)) refl
-
 module _ (w : List ℕ) (d : isDraft w ≡ true) where
   f : Formed w
   f = formed-of w d
-
-  fits-here : (p : ℕ) → p < places → isFree w p ≡ false → Fits w p
-  fits-here p l e = let t = true-place w d p l e in (t .0, t .1)
-
-  task-moved : (p start : ℕ) → hasTask w (pieceAt w p) ≡ true → hasTask w (movedTo (pieceAt w p) start) ≡ true
-  unfolding hasTask movedTo
-  task-moved p start e = e
 
   -- an edit leaves a draft: a new one, or the old one
   left : (n : ℕ) (new : List ℕ) → (n ≡ 0 → isDraft new ≡ true) → isDraft (leaves n new w) ≡ true
@@ -102,7 +87,7 @@ module _ (w : List ℕ) (d : isDraft w ≡ true) where
   still-draft (removes p) = left _ _ (λ e. freed-draft w p f (removed w p e .1))
   still-draft (moves p start) =
       left _ _ (λ e. let a = moved w p start e in
-      put-draft w p (movedTo (pieceAt w p) start) f (a .0 .1) (task-moved p start (fits-here p (a .0 .1) (a .0 .2) .0)) (a .1))
+      put-draft w p (movedTo (pieceAt w p) start) f (a .0 .1) (task-moved w (pieceAt w p) start (held-fits w f p (a .0 .1) (a .0 .2) .0)) (a .1))
 
   core-there : (c : ℕ) → coreNumber w c ≡ 0 → c < draftCores w
   unfolding coreNumber
@@ -169,11 +154,11 @@ module _ (w : List ℕ) where
 
   job-none : (t k : ℕ) → 0 < jobNumber w t k → jobValue w t k ≡ 0
   unfolding jobValue
-  job-none t k l = gives-none _ _ l
+  job-none t k l = gives-none _ _ (some _ l)
 
   core-none : (c : ℕ) → 0 < coreNumber w c → coreValue w c ≡ 0
   unfolding coreValue
-  core-none c l = gives-none _ _ l
+  core-none c l = gives-none _ _ (some _ l)
 
 pub refused-keeps : RefusedKeeps
 refused-keeps w = (made-kept w, edit-kept w, place-kept w, job-none w, core-none w)

@@ -11,7 +11,7 @@ use lib.Seq.{sets, length-sets, getD-set-same, getD-set-other}
 use borrow.Author.Tests.{eq-eqb}
 use Rattle.plan.specs.declared.Piece.{Piece}
 use Rattle.drafts.specs.Drafts.{draftWords, places, placeAt, pieceAt, isFree, hasTask, fitsJob, isDraft}
-use Rattle.drafts.specs.Edits.{pieceWords, putAt, freedAt}
+use Rattle.drafts.specs.Edits.{movedTo, pieceWords, putAt, freedAt}
 use Rattle.drafts.proofs.Storing.{sets-other, sets-at}
 use Rattle.drafts.proofs.Heads.{Formed, Fits, few-cores, SameHead, same-length, same-head, same-task, same-fit, same-range, same-tasks, same-switches, same-piece}
 use Rattle.drafts.proofs.Summing.{summed-head, summed-piece, summed-draft}
@@ -61,6 +61,11 @@ fits-still w v h f q l e = go (f .pieces q l)
     go : (isFree w q ≡ true) ⊎ Fits w q → (isFree v q ≡ true) ⊎ Fits v q
     go (inl d) = inl (rw e d)
     go (inr d) = inr (rw e (same-task w v h (pieceAt w q) ∙ d .0, same-fit w v h f (pieceAt w q) (d .0) ∙ d .1))
+
+-- a moved piece is of the same task
+pub task-moved : (w : List ℕ) (x : Piece) (start : ℕ) → hasTask w x ≡ true → hasTask w (movedTo x start) ≡ true
+unfolding hasTask movedTo
+task-moved w x start e = e
 
 -- ---- a piece put at a place
 

@@ -12,17 +12,16 @@ use lib.Dec.{ltb, leb}
 use borrow.Author.Tests.{ltb-true, le-ltb}
 use Rattle.plan.specs.declared.Piece.{Piece}
 use Rattle.plan.specs.Questions.{whole}
-use Rattle.plan.proofs.Searching.{and-true}
 use Rattle.drafts.specs.Drafts.{draftWords, places, coreAt, placeAt, draftCores, draftTasks, taskJobs, coreTotal, pieceAt, rankAt, totalAt, isFree, hasTask, fitsJob, coreSum, isDraft, holdsPiece}
 use Rattle.drafts.specs.Edits.{storeRows, sumsAt, summed, pieceWords, putAt, freedAt, leaves, gives, movedTo, addNumber, addWords, removeNumber, removeWords, moveNumber, moveWords, placeNumber, placeLeaves, jobNumber, jobValue, coreNumber, coreValue}
 use Rattle.drafts.specs.Claim.{Edit, adds, removes, moves, editNumber, edited, Alike, FirstWords}
 use Rattle.drafts.proofs.Storing.{length-rows, rows-cong, set-agrees, sets-agree, rows-agree}
-use Rattle.drafts.proofs.Heads.{Formed, TruePlace, TrueCore, r-draft, formed-of, few-cores, few-tasks, true-place, SameHead, same-head, same-task, same-fit, same-range, same-tasks, same-switches, same-piece, same-free, same-job-sum, same-rank, same-core-sum}
+use Rattle.drafts.proofs.Heads.{Formed, TruePlace, TrueCore, r-draft, formed-of, few-cores, few-tasks, SameHead, same-head, same-task, same-fit, same-range, same-tasks, same-switches, same-piece, same-free, same-job-sum, same-rank, same-core-sum, held-fits}
 use Rattle.drafts.proofs.Summing.{length-summed, sums-short}
 use Rattle.drafts.proofs.Asking.{asked-yes, asked-no, leaves-new, leaves-old}
-use Rattle.drafts.proofs.Editing.{stored-formed, emptied-formed}
+use Rattle.drafts.proofs.Editing.{task-moved, stored-formed, emptied-formed}
 use Rattle.drafts.proofs.Stored.{stored-sum}
-use Rattle.drafts.proofs.Keeping.{added, removed, moved}
+use Rattle.drafts.proofs.Keeping.{held, added, removed, moved}
 use Rattle.drafts.proofs.Answers.{asked-same}
 use Rattle.drafts.proofs.Claims.{no-draft, refused-keeps}
 
@@ -181,20 +180,6 @@ module _ (w v : List ℕ) (a : Alike w v) (d : isDraft w ≡ true) where
       go (yes l) = rw (same-free w v (alike-piece w v a) p l) refl
       go (no l) = rw (le-ltb p places (omega arith)) refl
 
-  held-there : (p : ℕ) → isDraft w && holdsPiece w p ≡ true → (p < places) × (isFree w p ≡ false)
-  unfolding holdsPiece
-  held-there p z =
-      let b = and-true (isDraft w) _ z in let c = and-true (ltb p places) (not (isFree w p)) (b .1) in
-      (ltb-true p places (c .0), no-free (isFree w p) (c .1))
-    where
-      no-free : (b : Bool) → not b ≡ true → b ≡ false
-      no-free true y = absurd (true≢false (sym y))
-      no-free false y = refl
-
-  task-of : (p start : ℕ) → hasTask w (pieceAt w p) ≡ true → hasTask w (movedTo (pieceAt w p) start) ≡ true
-  unfolding hasTask movedTo
-  task-of p start z = z
-
   add-alike : (p : ℕ) (x : Piece) → addNumber v p x ≡ addNumber w p x
   unfolding addNumber
   add-alike p x =
@@ -205,10 +190,10 @@ module _ (w v : List ℕ) (a : Alike w v) (d : isDraft w ≡ true) where
   unfolding moveNumber
   move-alike p start =
       asked-same 33 _ _ _ _ (held-alike p)
-      (λ z. let b = held-there p z in
+      (λ z. let b = held w p z in
       asked-same 10 _ _ [] []
-      (ap (λ (y : Piece). fitsJob v (movedTo y start)) (alike-piece w v a p (b .0))
-      ∙ same-fit w v h f (movedTo (pieceAt w p) start) (task-of p start (true-place w d p (b .0) (b .1) .0)))
+      (ap (λ (y : Piece). fitsJob v (movedTo y start)) (alike-piece w v a p (b .1))
+      ∙ same-fit w v h f (movedTo (pieceAt w p) start) (task-moved w (pieceAt w p) start (held-fits w f p (b .1) (b .2) .0)))
       (λ _. refl))
 
   remove-alike : (p : ℕ) → removeNumber v p ≡ removeNumber w p
@@ -285,7 +270,7 @@ module _ (w v : List ℕ) (a : Alike w v) (d : isDraft w ≡ true) where
       rw (move-alike p start)
       (left-alike (moveNumber w p start) _ _
       (λ z. let b = moved w p start z in let l = b .0 .1 in
-      rw (alike-piece w v a p l) (put-alike p (movedTo (pieceAt w p) start) l (task-of p start (true-place w d p l (b .0 .2) .0)) (b .1))))
+      rw (alike-piece w v a p l) (put-alike p (movedTo (pieceAt w p) start) l (task-moved w (pieceAt w p) start (held-fits w f p l (b .0 .2) .0)) (b .1))))
 
   number-alike : (x : Edit) → editNumber v x ≡ editNumber w x
   unfolding editNumber

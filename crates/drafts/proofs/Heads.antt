@@ -75,6 +75,14 @@ module _ (w : List ℕ) where
       go p (inl e) = inl e
       go p (inr e) = inr (e .0, e .1)
 
+  -- a place that holds a piece
+  pub held-fits : Formed → (p : ℕ) → p < places → isFree w p ≡ false → Fits p
+  held-fits f p l e = go (f .pieces p l)
+    where
+      go : (isFree w p ≡ true) ⊎ Fits p → Fits p
+      go (inl d) = absurd (true≢false (sym d ∙ e))
+      go (inr d) = d
+
   -- a task's core is one of at most 32
   pub few-tasks : Formed → draftTasks w ≤ 256
   few-tasks f = r-head .0 (f .head) .4

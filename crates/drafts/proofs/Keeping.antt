@@ -1,8 +1,8 @@
 -- What edits keep of a draft made from an image: its head is the image's, and each place holds the piece that is meant.
 use Prim.Native.Nat.{ℕ, _<_}
 use mathlib.Core.Path.{_≡_, refl, sym, ap, _∙_, subst}
-use mathlib.Core.Logic.{_≢_, _⊎_, inl, inr}
-use mathlib.Core.Bool.{true, false, not, _&&_, cond, true≢false}
+use mathlib.Core.Logic.{_≢_}
+use mathlib.Core.Bool.{true, false, not, _&&_, cond}
 use mathlib.Core.List.{List}
 use native.Mathlib.Decide.{ℕ-discrete}
 use native.Mathlib.Omega.{arith}
@@ -16,9 +16,9 @@ use Rattle.drafts.specs.Drafts.{places, pieceAt, isFree, hasTask, fitsJo
 use Rattle.drafts.specs.Edits.{leaves, summed, copied, noPiece, madePiece, makeNumber, makeWords, putAt, freedAt, movedTo, addNumber, addWords}
 use Rattle.drafts.specs.Edits.{removeNumber, removeWords, moveNumber, moveWords}
 use Rattle.drafts.specs.Claim.{adds, removes, moves, edited}
-use Rattle.drafts.proofs.Heads.{Formed, Fits, formed-of, few-cores, few-tasks, SameHead}
+use Rattle.drafts.proofs.Heads.{Formed, formed-of, few-cores, few-tasks, SameHead, held-fits}
 use Rattle.drafts.proofs.Summing.{summed-head, summed-piece, summed-draft}
-use Rattle.drafts.proofs.Editing.{put-draft, put-head, put-here, put-there, freed-draft, freed-head, freed-here, freed-there}
+use Rattle.drafts.proofs.Editing.{task-moved, put-draft, put-head, put-here, put-there, freed-draft, freed-head, freed-here, freed-there}
 use Rattle.drafts.proofs.Asking.{asked-zero, leaves-new, leaves-old}
 use Rattle.drafts.proofs.Making.{shown, HeadOf, copied-head, copied-piece, copied-formed}
 
@@ -60,7 +60,7 @@ module _ (w : List ℕ) (p : ℕ) where
       let c = asked-zero 10 _ _ (omega arith) (b .1) in let d = asked-zero 34 _ _ (omega arith) (c .1) in
       (a .0, b .0, c .0, ltb-true p places (and-true (ltb p places) (isFree w p) (d .0) .0))
 
-  held : isDraft w && holdsPiece w p ≡ true → (isDraft w ≡ true) × (p < places) × (isFree w p ≡ false)
+  pub held : isDraft w && holdsPiece w p ≡ true → (isDraft w ≡ true) × (p < places) × (isFree w p ≡ false)
   unfolding holdsPiece
   held e =
       let a = and-true (isDraft w) (holdsPiece w p) e in let b = and-true (ltb p places) (not (isFree w p)) (a .1) in
@@ -143,17 +143,6 @@ module _ (s w : List ℕ) (at : ℕ → Piece) (k : Kept s w at) where
       pos : (n : ℕ) → (n ≡ 0 → ⊥) → 0 < n
       pos n h = omega arith
 
-  pub fits-there : (p : ℕ) → p < places → isFree w p ≡ false → Fits w p
-  fits-there p l e = go (f .pieces p l)
-    where
-      go : (isFree w p ≡ true) ⊎ Fits w p → Fits w p
-      go (inl d) = absurd (true≢false (sym d ∙ e))
-      go (inr d) = d
-
-  pub same-task-moved : (p start : ℕ) → hasTask w (pieceAt w p) ≡ true → hasTask w (movedTo (pieceAt w p) start) ≡ true
-  unfolding hasTask movedTo
-  same-task-moved p start e = e
-
   pub kept-move : (p start : ℕ) → Kept s (edited w (moves p start)) (λ q. cond (eqb (moveNumber w p start) 0 && eqb q p) (movedTo (at q) start) (at q))
   unfolding edited moveWords movedTo
   kept-move p start = go (ℕ-discrete (moveNumber w p start) 0)
@@ -164,7 +153,7 @@ module _ (s w : List ℕ) (at : ℕ → Piece) (k : Kept s w at) where
           kept-same _ _ (leaves-old (moveNumber w p start) (putAt w p (movedTo (pieceAt w p) start)) w e) (λ q. choose-none (moveNumber w p start) p q (movedTo (at q) start) (at q) e)
       go (yes e) =
           let a = moved w p start e in let l = a .0 .1 in let x = movedTo (pieceAt w p) start in
-          let t = same-task-moved p start (fits-there p l (a .0 .2) .0) in
+          let t = task-moved w (pieceAt w p) start (held-fits w f p l (a .0 .2) .0) in
           rw (leaves-new (moveNumber w p start) (putAt w p x) w e)
           (kept-after (putAt w p x) p (λ q. cond (eqb (moveNumber w p start) 0 && eqb q p) (movedTo (at q) start) (at q))
           (put-draft w p x f l t (a .1)) (put-head w p x f l t (a .1)) (put-there w p x f l t (a .1))

@@ -80,4 +80,4 @@ later-made s w =
     later-on (record { long = long-copied s w g; same = copied-later s w g }) (later-summed (copied s w) (few-cores (copied s w) (copied-formed s w g))))
 
 pub later-kept : LaterKept
-later-kept s w es = let h = later-on (later-made s w) (later-edits (makeWords s w) es) in (h .long, h .same)
+later-kept w = (λ s. let h = later-made s w in (h .long, h .same), λ es. let h = later-edits w es in (h .long, h .same))

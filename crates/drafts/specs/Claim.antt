@@ -106,11 +106,12 @@ SameQuestions = (s : List ℕ) (i : ℕ) → (meetsFive s (piece s i) ≡ names 
 
 -- ---- any words, whoever wrote them
 
--- words past the first 32,768 stay as they were, and so does the number of words
+-- words past the first 32,768 stay as they were, and so does the number of words: through making, and through any edits
+abbrev pub SameLater : List ℕ → List ℕ → Type 0
+SameLater w v = (length v ≡ length w) × ((j : ℕ) → draftWords ≤ j → getD v j 0 ≡ getD w j 0)
+
 abbrev pub LaterKept : Type 0
-LaterKept =
-    (s w : List ℕ) (es : List Edit)
-    → (length (afterEdits (makeWords s w) es) ≡ length w) × ((j : ℕ) → draftWords ≤ j → getD (afterEdits (makeWords s w) es) j 0 ≡ getD w j 0)
+LaterKept = (w : List ℕ) → ((s : List ℕ) → SameLater w (makeWords s w)) × ((es : List Edit) → SameLater w (afterEdits w es))
 
 -- a draft by 33 has true totals, and stays a draft
 abbrev pub TrueTotals : Type 0

@@ -65,7 +65,7 @@ noPiece = record { task = 0; job = 0; start = 0; length = 0 }
 unfoldable pub madePiece : List ℕ → ℕ → Piece
 madePiece s p = cond (ltb p (rows s Pieces)) (piece s p) noPiece
 
--- H, counts, cores, tasks and pieces of the image stored; then every total
+-- H, counts, cores, tasks and pieces of the image stored
 unfoldable pub copied : List ℕ → List ℕ → List ℕ
 copied s w =
     storeRows placeAt (λ p. pieceWords (madePiece s p)) places
@@ -73,6 +73,7 @@ copied s w =
     (storeRows coreAt (λ c. core s c .d ∷ []) (rows s Cores)
     (sets w 0 (cycleTicks s ∷ rows s Cores ∷ rows s Tasks ∷ []))))
 
+-- and then every rank and total
 unfoldable pub makeWords : List ℕ → List ℕ → List ℕ
 makeWords s w = leaves (makeNumber s w) (summed (copied s w)) w
 

@@ -10,8 +10,7 @@ use Rattle.plan.specs.declared.Piece.{Piece}
 use Rattle.drafts.specs.Drafts.{draftWords, places, draftTasks, isFree, hasTask, fitsJob, isDraft, holdsPiece}
 use Rattle.drafts.specs.Edits.{addNumber, addWords, putAt, removeNumber, removeWords, freedAt}
 use Rattle.drafts.proofs.Heads.{r-draft}
-use Rattle.drafts.proofs.Asking.{asked-none, asked-yes, asked-no, leaves-new, leaves-old}
-use Rattle.edits.proofs.Moving.{not-zero}
+use Rattle.drafts.proofs.Asking.{asked-none, asked-yes, asked-no, leaves-new, leaves-old, not-zero}
 
 pub draft-room : (w : List ℕ) → isDraft w ≡ true → draftWords ≤ length w
 draft-room w e = r-draft w .0 e .0

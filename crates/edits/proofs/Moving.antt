@@ -2,20 +2,19 @@
 use Prim.Native.Nat.{ℕ, suc, _+_, _<_}
 use mathlib.Core.Path.{_≡_, refl, sym, ap, _∙_, subst}
 use mathlib.Core.Logic.{_≢_, _⊎_, inl, inr}
-use mathlib.Core.Bool.{true, false, not, _&&_, cond, true≢false}
+use mathlib.Core.Bool.{true, false, _&&_, cond, true≢false}
 use mathlib.Core.List.{List, []}
 use native.Mathlib.Omega.{arith}
 use lib.ListN.{length, getD, set, length-set}
 use lib.Seq.{sets, set-getD, getD-set-other}
-use lib.Dec.{ltb, eqb}
-use borrow.Author.Tests.{ltb-true, not-true}
-use Rattle.plan.proofs.Searching.{and-true}
+use lib.Dec.{eqb}
 use Rattle.plan.specs.declared.Piece.{Piece}
 use Rattle.plan.proofs.Counting.{count-cong}
 use Rattle.drafts.specs.Drafts.{places, coreAt, placeAt, isOf, isBelow, draftCores, draftTasks, taskCore, coreTotal, pieceAt, rankAt, totalAt, isFree, fitsJob, jobSum, coreSum, rank, isDraft, holdsPiece}
 use Rattle.drafts.specs.Edits.{summed, pieceWords, putAt, movedTo, moveNumber, moveWords}
-use Rattle.drafts.proofs.Heads.{Formed, Fits, TruePlace, r-draft, formed-of, few-cores, few-tasks, task-exists, free-length, SameHead, same-length, same-head, sum-same, cond-none}
-use Rattle.drafts.proofs.Asking.{asked-none, asked-yes, asked-no, leaves-new, leaves-old}
+use Rattle.drafts.proofs.Heads.{Formed, Fits, TruePlace, r-draft, formed-of, few-cores, few-tasks, task-exists, free-length, SameHead, same-length, same-head, sum-same, cond-none, held-fits}
+use Rattle.drafts.proofs.Asking.{asked-none, asked-yes, asked-no, leaves-new, leaves-old, not-zero}
+use Rattle.drafts.proofs.Keeping.{held}
 use Rattle.drafts.proofs.Summing.{is-summed}
 
 -- words with the same head, and pieces that differ in their starts only, have the same sums
@@ -124,9 +123,6 @@ module _ (w : List ℕ) (p start : ℕ) (d : isDraft w ≡ true) (l : p < places
   moved-words = ap summed stored-once ∙ after-summed
 
 -- what a move answers and leaves
-pub not-zero : {n k : ℕ} → n ≡ suc k → n ≢ 0
-not-zero e z = omega arith
-
 module _ (w : List ℕ) (p start : ℕ) where
   pub move-33 : isDraft w && holdsPiece w p ≡ false → (33 ≡ moveNumber w p start) × (w ≡ moveWords w p start)
   unfolding moveNumber moveWords
@@ -144,11 +140,4 @@ module _ (w : List ℕ) (p start : ℕ) where
 
 -- the piece to move is there
 pub move-held : (w : List ℕ) (p : ℕ) → isDraft w && holdsPiece w p ≡ true → (isDraft w ≡ true) × (p < places) × (pieceAt w p .task < draftTasks w)
-unfolding holdsPiece
-move-held w p e =
-    let a = and-true (isDraft w) _ e in let b = and-true (ltb p places) (not (isFree w p)) (a .1) in
-    (a .0, ltb-true p places (b .0), go (r-draft w .0 (a .0) .4 p (ltb-true p places (b .0))) (not-true (isFree w p) (b .1)))
-  where
-    go : (isFree w p ≡ true) ⊎ TruePlace w p → isFree w p ≡ false → pieceAt w p .task < draftTasks w
-    go (inl z) f = absurd (true≢false (sym z ∙ f))
-    go (inr z) f = task-exists w p (z .0, z .1)
+move-held w p e = let a = held w p e in (a .0, a .1, task-exists w p (held-fits w (formed-of w (a .0)) p (a .1) (a .2)))

@@ -21,7 +21,7 @@ use Rattle.plan.proofs.Orders.{pieces-rise}
 use Rattle.plan.proofs.Searching.{yes-all}
 use Rattle.drafts.specs.Drafts.{draftWords, places, taskPeriod, taskDeadline, pieceAt, isFree, hasTask, fitsJob}
 use Rattle.drafts.specs.Edits.{numberOf, noPiece, madePiece, copied, summed, makeNumber, makeWords}
-use Rattle.drafts.proofs.Heads.{Formed, Fits, r-fits, task-exists}
+use Rattle.drafts.proofs.Heads.{Formed, Fits, r-fits, task-exists, held-fits}
 use Rattle.drafts.proofs.Asking.{asked-none, asked-yes, asked-no, leaves-new, leaves-old}
 use Rattle.drafts.proofs.Making.{Shown, shown, real-append, real-four, copied-piece, copied-formed}
 use Rattle.draftwords.specs.Heads.{Headed, placeFits}
@@ -109,13 +109,6 @@ module _ (s w : List ℕ) (g : Shown s w) where
           yes-or true = refl
           yes-or false = refl
 
-  fits-held : (p : ℕ) → p < places → isFree made p ≡ false → Fits made p
-  fits-held p l e = go (f .pieces p l)
-    where
-      go : (isFree made p ≡ true) ⊎ Fits made p → Fits made p
-      go (inl d) = absurd (true≢false (sym d ∙ e))
-      go (inr d) = d
-
   -- a place that holds a piece is a row
   is-row : (p : ℕ) → p < places → isFree made p ≡ false → (p < rows s Pieces) × (pieceAt made p ≡ piece s p)
   unfolding isFree madePiece noPiece
@@ -138,9 +131,9 @@ module _ (s w : List ℕ) (g : Shown s w) where
   rising p q l m a b t =
       let x = pieceAt made p in let y = pieceAt made q in
       let i = is-row p (omega arith) a in let j = is-row q m b in
-      let c = r-fits made x .0 (fits-held p (omega arith) a .1) in let d = r-fits made y .0 (fits-held q m b .1) in
+      let c = r-fits made x .0 (held-fits made f p (omega arith) a .1) in let d = r-fits made y .0 (held-fits made f q m b .1) in
       let r : x .start ≤ y .start = rw (i .1, j .1) (pieces-rise s (g .sound) p q (omega arith) (j .0)) in
-      let u = task-exists made q (fits-held q m b) in
+      let u = task-exists made q (held-fits made f q m b) in
       lower (taskPeriod made (y .task)) (x .job) (y .job) (x .start) (y .start) (y .length) (taskDeadline made (y .task))
       (subst (λ (n : ℕ). x .job * taskPeriod made n ≤ x .start) t (c .2)) r (d .3) (omega (arith, d .1)) (deadline-period made headed (y .task) u)
 

@@ -3,30 +3,15 @@ use Prim.Native.Nat.{ℕ, suc, _/_, _≤_, _<_}
 use mathlib.Core.Path.{_≡_, refl, sym, _∙_}
 use mathlib.Core.Bool.{Bool, true, false, not, _&&_}
 use mathlib.Core.List.{List, []}
-use native.Mathlib.Omega.{arith}
 use lib.ListN.{length}
 use lib.Seq.{sets}
-use lib.Dec.{ltb}
-use borrow.Author.Tests.{lt-ltb, le-ltb, lt-leb, le-leb, ltb-true, eq-eqb, ne-eqb}
-use Rattle.plan.specs.declared.Found.the-variants.{At, Nothing}
-use Rattle.plan.specs.Search.{first}
-use Rattle.plan.proofs.Searching.{and-true}
-use Rattle.drafts.specs.Drafts.{draftWords, places, draftCycle, draftCores, draftTasks, taskPeriod, taskJobs, coreTotal, pieceAt, totalAt, isFree, isOf, isDraft, holdsPiece}
+use borrow.Author.Tests.{lt-ltb, le-ltb, lt-leb, le-leb}
+use Rattle.drafts.specs.Drafts.{draftWords, places, draftCycle, draftCores, draftTasks, taskPeriod, taskJobs, coreTotal, pieceAt, isFree, isDraft, holdsPiece}
 use Rattle.draftwords.specs.Heads.{Headed}
-use Rattle.drafts.specs.Edits.{gives, pieceWords, coreNumber, coreValue, jobNumber, jobValue, storedTotal, placeNumber, placeLeaves}
+use Rattle.drafts.specs.Edits.{pieceWords, coreNumber, coreValue, jobNumber, jobValue, storedTotal, placeNumber, placeLeaves}
 use Rattle.drafts.proofs.Heads.{r-draft}
-use Rattle.drafts.proofs.Asking.{asked-none, asked-yes, asked-no, leaves-new, leaves-old}
-
-not-zero : (n k : ℕ) → n ≡ suc k → n ≡ 0 → ⊥
-not-zero n k e z = omega arith
-
-value-none : (n v k : ℕ) → n ≡ suc k → 0 ≡ gives n v
-unfolding gives
-value-none n v k e = rw (ne-eqb n 0 (λ (z : n ≡ 0). omega arith)) refl
-
-value-some : (n v : ℕ) → n ≡ 0 → v ≡ gives n v
-unfolding gives
-value-some n v e = rw (eq-eqb n 0 e) refl
+use Rattle.drafts.proofs.Asking.{asked-none, asked-yes, asked-no, leaves-new, leaves-old, gives-value, gives-none, not-zero}
+use Rattle.drafts.proofs.Keeping.{held}
 
 module _ (w : List ℕ) where
   pub headed-of : isDraft w ≡ true → Headed w
@@ -36,7 +21,7 @@ module _ (w : List ℕ) where
   module _ (c : ℕ) where
     core-by : (n : ℕ) → coreNumber w c ≡ suc n → (suc n ≡ coreNumber w c) × (0 ≡ coreValue w c)
     unfolding coreValue
-    core-by n e = (sym e, value-none _ _ n e)
+    core-by n e = (sym e, sym (gives-none _ _ (not-zero e)))
 
     pub core-33 : isDraft w ≡ false → (33 ≡ coreNumber w c) × (0 ≡ coreValue w c)
     unfolding coreNumber
@@ -49,7 +34,7 @@ module _ (w : List ℕ) where
 
       pub core-0 : c < draftCores w → (0 ≡ coreNumber w c) × (coreTotal w c ≡ coreValue w c)
       unfolding coreNumber coreValue
-      core-0 l = let e = asked-yes 33 _ _ d ∙ asked-yes 5 _ [] (lt-ltb c (draftCores w) l) ∙ asked-none in (sym e, value-some _ _ e)
+      core-0 l = let e = asked-yes 33 _ _ d ∙ asked-yes 5 _ [] (lt-ltb c (draftCores w) l) ∙ asked-none in (sym e, sym (gives-value _ _ e))
 
   pub jobs-is : (t x y : ℕ) → x ≡ draftCycle w → y ≡ taskPeriod w t → x / y ≡ taskJobs w t
   unfolding taskJobs
@@ -59,7 +44,7 @@ module _ (w : List ℕ) where
   module _ (t j : ℕ) where
     job-by : (n : ℕ) → jobNumber w t j ≡ suc n → (suc n ≡ jobNumber w t j) × (0 ≡ jobValue w t j)
     unfolding jobValue
-    job-by n e = (sym e, value-none _ _ n e)
+    job-by n e = (sym e, sym (gives-none _ _ (not-zero e)))
 
     pub job-33 : isDraft w ≡ false → (33 ≡ jobNumber w t j) × (0 ≡ jobValue w t j)
     unfolding jobNumber
@@ -78,22 +63,14 @@ module _ (w : List ℕ) where
       unfolding jobNumber jobValue
       job-0 l m =
           let e = asked-yes 33 _ _ d ∙ asked-yes 5 _ _ (lt-ltb t (draftTasks w) l) ∙ asked-yes 10 _ [] (lt-ltb j (taskJobs w t) m) ∙ asked-none in
-          (sym e, value-some _ _ e)
-
-    pub stored-at : (p : ℕ) → first places (λ q. not (isFree w q) && isOf t j (pieceAt w q)) ≡ At p → storedTotal w t j ≡ totalAt w p
-    unfolding storedTotal
-    stored-at p e = rw (e, storedTotal) refl
-
-    pub stored-none : first places (λ q. not (isFree w q) && isOf t j (pieceAt w q)) ≡ Nothing → storedTotal w t j ≡ 0
-    unfolding storedTotal
-    stored-none e = rw (e, storedTotal) refl
+          (sym e, sym (gives-value _ _ e))
 
   -- a place
   module _ (p : ℕ) where
     module _ (piece : List ℕ) where
       refused : (n : ℕ) → placeNumber w p piece ≡ suc n → (suc n ≡ placeNumber w p piece) × (piece ≡ placeLeaves w p piece)
       unfolding placeLeaves
-      refused n e = (sym e, sym (leaves-old _ _ piece (not-zero _ n e)))
+      refused n e = (sym e, sym (leaves-old _ _ piece (not-zero e)))
 
       pub place-33 : isDraft w && holdsPiece w p ≡ false → (33 ≡ placeNumber w p piece) × (piece ≡ placeLeaves w p piece)
       unfolding placeNumber
@@ -111,9 +88,7 @@ module _ (w : List ℕ) where
             (sym n, sym (leaves-new _ _ piece n))
 
     pub held-place : isDraft w && holdsPiece w p ≡ true → (draftWords ≤ length w) × (p < places)
-    unfolding holdsPiece
-    held-place e =
-        let a = and-true (isDraft w) _ e in let b = and-true (ltb p places) (not (isFree w p)) (a .1) in (r-draft w .0 (a .0) .0, ltb-true p places (b .0))
+    held-place e = let a = held w p e in (r-draft w .0 (a .0) .0, a .1)
 
     no-and : (b : Bool) → b && false ≡ false
     no-and true = refl

@@ -7,7 +7,7 @@ use Rattle.plan.specs.declared.Found.the-variants.{Nothing}
 use Rattle.plan.specs.Search.{first, firstNo}
 use Rattle.plan.proofs.Searching.{turn-yes, stops}
 use Rattle.drafts.specs.Drafts.{places, isFree, isOf, pieceAt}
-use Rattle.readings.proofs.Readings.{stored-at, stored-none}
+use Rattle.drafts.proofs.Stored.{stored-at, stored-none}
 use Rattle.readings.proofs.stored_total.Statement.{statement}
 use Rattle.readings.proofs.stored_total.Tie as tie
 
