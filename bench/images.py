@@ -16,7 +16,7 @@ UNSAID = {
     "task": {"cores": 1, "budget": 1},
     "window": {"length": 1},
     "piece": {"length": 1},
-    "link": {"delay": 1, "rate": 352},
+    "link": {"delay": 1, "rate": 352, "lowest": 1},
     "stream": {"hops": 1, "payload": 46},
 }
 

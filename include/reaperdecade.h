@@ -1,6 +1,6 @@
 /*
  * reaperdecade.h - check tunnel plans, build their dispatch tables, step them;
- * edit their pieces in drafts.
+ * tell when their frames arrive; edit their pieces in drafts.
  *
  * The functions of libreaperdecade.a, for C99 and later and for C++. Each of
  * them is proved to meet its contract: its result and every byte that it
@@ -157,6 +157,27 @@ uint32_t rd_step(const uint8_t *words, size_t words_len, uint8_t *state, size_t 
  * lowest state that is refused, 27 or 28, and writes nothing.
  */
 uint32_t rd_step_all(const uint8_t *words, size_t words_len, uint8_t *states, size_t states_len);
+
+/*
+ * When a frame arrives, as read on the clock of the node that sends it, the
+ * from node of its link: the check's questions again, then 5 (is there such a
+ * frame?) and 26 (are there two words?).
+ *
+ * image      image_len bytes, which are only read.
+ * frame      the row in the frame table.
+ * ticks      ticks_len bytes, of which ticks_len / 4 words count; 8 suffice.
+ *
+ * Gives 0 and writes two words, the earliest tick and the latest, counted from
+ * the cycle's start: the frame's end plus its link's lowest delay, and its end
+ * plus its link's delay. Later bytes are left as they were. The latest is no
+ * sooner than the earliest, and the latest plus P lies in the same cycle.
+ * In every run of the plan the frame arrives at one of these ticks or between
+ * them, whatever delay within its link's bounds the crossing takes.
+ * Gives another answer and writes nothing where a question is answered no: the
+ * image's own answer where it is not accepted; 5, table 8 and the row asked for
+ * where there is no such frame; 26 where there are fewer than two words.
+ */
+uint64_t rd_arrivals(const uint8_t *image, size_t image_len, uint32_t frame, uint8_t *ticks, size_t ticks_len);
 
 /*
  * Drafts. A draft is a row of words made from an image, in which pieces are

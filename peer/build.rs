@@ -8,13 +8,14 @@
 use std::path::Path;
 use std::process::Command;
 
-const FUNCTIONS: [&str; 13] = [
+const FUNCTIONS: [&str; 14] = [
     "rd_check",
     "rd_build",
     "rd_build_all",
     "rd_start",
     "rd_step",
     "rd_step_all",
+    "rd_arrivals",
     "rd_draft_make",
     "rd_draft_add",
     "rd_draft_remove",

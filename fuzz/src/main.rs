@@ -110,6 +110,7 @@ fn run(input: &[u8]) -> Result<(), Difference> {
     let room = usize::from(run.choices.room);
     run.build(lent.part(), u32::from(run.choices.lane), room)?;
     run.build_all(lent.part(), room)?;
+    run.arrivals(lent.part())?;
     if answer == 0 {
         run.accepted(lent.part())?;
     }
@@ -139,6 +140,15 @@ impl Run<'_> {
     fn build_all(&mut self, image: &[u8], room: usize) -> Result<(), Difference> {
         let mut words = Lent::noise(room, &mut self.rng);
         self.pair.build_all(image, &mut words)?;
+        Ok(())
+    }
+
+    /// Asks when a frame arrives, the lane's number taken for its row, with the bytes that this needs, more or fewer.
+    fn arrivals(&mut self, image: &[u8]) -> Result<(), Difference> {
+        let room = 8_usize.saturating_add_signed(isize::from(self.choices.spare));
+        let mut ticks = Lent::noise(room, &mut self.rng);
+        self.pair
+            .arrivals(image, u32::from(self.choices.lane), &mut ticks)?;
         Ok(())
     }
 

@@ -14,6 +14,7 @@ pub trait Boundary {
     fn start(&self, cycle: u64, first: u32, state: &mut [u8]) -> u32;
     fn step(&self, words: &[u8], state: &mut [u8]) -> u32;
     fn step_all(&self, words: &[u8], states: &mut [u8]) -> u32;
+    fn arrivals(&self, image: &[u8], frame: u32, ticks: &mut [u8]) -> u64;
 
     /// All lanes' tables, one after another. Asks what the check asks,
     /// then 26 of all words together.
@@ -98,6 +99,13 @@ impl Boundary for Peer {
             *record = write_state(state);
         }
         answer
+    }
+
+    fn arrivals(&self, image: &[u8], frame: u32, ticks: &mut [u8]) -> u64 {
+        let mut row = read_words(ticks);
+        let answer = crate::arrivals(image, frame, &mut row);
+        write_words(&row, ticks);
+        answer.code()
     }
 }
 

@@ -152,9 +152,10 @@ fn ask_ranges(plan: &Plan) -> Result<(), Answer> {
         let divides = 1 <= period && cycle.is_multiple_of(period);
         divides && 1 <= budget && budget <= deadline && deadline <= period
     })?;
-    ask(6, LINK, &plan.links, |&[from, to, delay, rate, ..]| {
+    ask(6, LINK, &plan.links, |link| {
+        let [from, to, delay, rate, lowest, ..] = *link;
         let ends = from <= 15 && to <= 15 && from != to;
-        ends && delay <= 1_000_000 && (1..=10_000).contains(&rate)
+        ends && lowest <= delay && delay <= 1_000_000 && (1..=10_000).contains(&rate)
     })?;
     ask(6, STREAM, &plan.streams, |stream| {
         let [sender, receiver, latency, hops, payload, ..] = *stream;

@@ -20,7 +20,7 @@ pub const TABLES: usize = 10;
 
 /// Words of a row, table by table. All sizes follow from these and from the
 /// highest row counts.
-pub const WIDTHS: [usize; TABLES] = [3, 1, 5, 3, 4, 4, 5, 5, 3, 3];
+pub const WIDTHS: [usize; TABLES] = [3, 1, 5, 3, 4, 5, 5, 5, 3, 3];
 /// The least and the highest row count, table by table.
 pub const ROW_BOUNDS: [(u32, u32); TABLES] = [
     (1, 32),
@@ -69,7 +69,7 @@ pub type Task = [u32; width(TASK)];
 pub type Window = [u32; width(WINDOW)];
 /// task, job k, start, length
 pub type Piece = [u32; width(PIECE)];
-/// from node, to node, delay, rate
+/// from node, to node, delay, rate, lowest delay
 pub type Link = [u32; width(LINK)];
 /// sender task, receiver task, latency E, hops, payload
 pub type Stream = [u32; width(STREAM)];

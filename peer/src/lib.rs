@@ -4,6 +4,7 @@
 
 mod answer;
 mod arguments;
+mod arrivals;
 pub mod boundary;
 mod charges;
 mod check;
@@ -31,6 +32,7 @@ pub mod texts;
 
 pub use answer::Answer;
 pub use arguments::{arguments, numbers};
+pub use arrivals::arrivals;
 pub use check::check;
 pub use dispatch::{start, step, step_all, State};
 pub use histogram::Histogram;

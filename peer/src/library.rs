@@ -17,6 +17,13 @@ extern "C" {
     fn rd_start(cycle: u64, first: u32, state: *mut u8, state_len: usize) -> u32;
     fn rd_step(words: *const u8, words_len: usize, state: *mut u8, state_len: usize) -> u32;
     fn rd_step_all(words: *const u8, words_len: usize, states: *mut u8, states_len: usize) -> u32;
+    fn rd_arrivals(
+        image: *const u8,
+        image_len: usize,
+        frame: u32,
+        ticks: *mut u8,
+        ticks_len: usize,
+    ) -> u64;
     fn rd_draft_make(image: *const u8, image_len: usize, words: *mut u32, n: usize) -> u32;
     fn rd_draft_add(
         words: *mut u32,
@@ -65,6 +72,11 @@ impl Boundary for Library {
     fn step_all(&self, words: &[u8], states: &mut [u8]) -> u32 {
         let (at, length) = (states.as_mut_ptr(), states.len());
         unsafe { rd_step_all(words.as_ptr(), words.len(), at, length) }
+    }
+
+    fn arrivals(&self, image: &[u8], frame: u32, ticks: &mut [u8]) -> u64 {
+        let (at, length) = (ticks.as_mut_ptr(), ticks.len());
+        unsafe { rd_arrivals(image.as_ptr(), image.len(), frame, at, length) }
     }
 }
 

@@ -67,6 +67,36 @@ pub fn build(image: &[u8], lane: u32, words: &mut [u32]) -> Answer {
     Answer::ACCEPTED
 }
 
+/// The check, then 5 of the frame that is named, then 26, then both arrivals.
+pub fn arrivals(image: &[u8], frame: u32, ticks: &mut [u32]) -> Answer {
+    let answer = check(image);
+    if !answer.is_accepted() {
+        return answer;
+    }
+    let plan = Image { bytes: image };
+    if Number::from(frame) >= plan.rows(FRAME) {
+        return Answer::at(5, FRAME as u32, frame);
+    }
+    if ticks.len() < 2 {
+        return Answer::plain(26);
+    }
+    [ticks[0], ticks[1]] = arrivals_unasked(image, frame);
+    Answer::ACCEPTED
+}
+
+/// Earliest and latest arrival of a frame that there is, without a question
+/// asked.
+///
+/// The image must be one that questions 1 to 9 accept.
+pub fn arrivals_unasked(image: &[u8], frame: u32) -> [u32; 2] {
+    let plan = Image { bytes: image };
+    let frame = Number::from(frame);
+    let link = plan.frame_link(frame);
+    let earliest = plan.frame_end(frame) + plan.lowest_delay(link);
+    let latest = plan.frame_end(frame) + plan.delay(link);
+    [earliest as u32, latest as u32]
+}
+
 /// The table of a lane that there is, without a question asked. Where rows
 /// overlap, pieces are shown before windows, and lower rows before higher.
 ///
@@ -205,6 +235,9 @@ impl Image<'_> {
     }
     fn rate(&self, link: Number) -> Number {
         self.cell(LINK, link, 3)
+    }
+    fn lowest_delay(&self, link: Number) -> Number {
+        self.cell(LINK, link, 4)
     }
     fn sender(&self, stream: Number) -> Number {
         self.cell(STREAM, stream, 0)
@@ -434,6 +467,7 @@ impl Image<'_> {
                     && self.link_from(row) != self.link_to(row)
                     && self.delay(row) <= 1_000_000
                     && (1..=10_000).contains(&self.rate(row))
+                    && self.lowest_delay(row) <= self.delay(row)
             }
             STREAM => {
                 self.sender(row) != self.receiver(row)
@@ -857,6 +891,15 @@ impl Boundary for Naive {
             set_record(states, record, state);
         }
         0
+    }
+
+    fn arrivals(&self, image: &[u8], frame: u32, ticks: &mut [u8]) -> u64 {
+        let mut row: Vec<u32> = (0..ticks.len() / 4).map(|i| word(ticks, i)).collect();
+        let answer = arrivals(image, frame, &mut row);
+        for (index, word) in row.iter().enumerate() {
+            set_word(ticks, index, *word);
+        }
+        answer.code()
     }
 }
 

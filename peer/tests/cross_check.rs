@@ -158,7 +158,7 @@ fn shaken_plans() {
                     shaken(&mut row[rng.pick(&[2, 4])], &mut rng);
                 }),
                 5 => plan.links.iter_mut().for_each(|row| {
-                    shaken(&mut row[rng.within(2..=3) as usize], &mut rng);
+                    shaken(&mut row[rng.within(2..=4) as usize], &mut rng);
                 }),
                 6 => shaken(&mut plan.precision, &mut rng),
                 _ => plan.windows.iter_mut().for_each(|row| {

@@ -243,6 +243,40 @@ fn rates_are_many() {
     all_met(tiny, 100, &features);
 }
 
+/// The lowest delays of links that frames go over.
+#[test]
+fn delays_are_many() {
+    let features: [(&str, Feature); 6] = [
+        ("no delay", |plan| any_crossing(plan, |_, delay| delay == 0)),
+        ("a delay and no lowest", |plan| {
+            any_crossing(plan, |lowest, delay| lowest == 0 && delay > 0)
+        }),
+        ("one that is known", |plan| {
+            any_crossing(plan, |lowest, delay| lowest == delay && delay > 0)
+        }),
+        ("a lowest a tick below", |plan| {
+            any_crossing(plan, |lowest, delay| lowest > 0 && lowest + 1 == delay)
+        }),
+        ("a lowest that is neither", |plan| {
+            any_crossing(plan, |lowest, delay| lowest > 0 && lowest < delay)
+        }),
+        ("one message of several lowest delays", |plan| {
+            hops_differ(plan, |plan, frame| plan.links[frame[3] as usize][4])
+        }),
+    ];
+    all_met(accepted, 100, &features);
+    all_met(rich, 100, &features);
+    all_met(tiny, 100, &features);
+}
+
+/// Whether it holds for the lowest and the highest delay of some frame's link.
+fn any_crossing(plan: &Plan, holds: fn(u32, u32) -> bool) -> bool {
+    plan.frames.iter().any(|frame| {
+        let [_, _, delay, _, lowest, ..] = plan.links[frame[3] as usize];
+        holds(lowest, delay)
+    })
+}
+
 fn ticks(plan: &Plan, frame: &Frame) -> u32 {
     plan.frame_ticks(frame[0], frame[3])
 }

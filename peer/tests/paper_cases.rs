@@ -3,11 +3,13 @@
 mod cases;
 
 use cases::{case_a, case_b, case_chain, two_hops, two_rows};
+use peer::boundary::{Boundary, Peer};
 use peer::image::{
     point_back, row_of, rows_of, set_word, width, word_at, Trailer, LINK, LONGEST, TABLES, TRAILER,
     WORD,
 };
-use peer::{build, check, naive, report, start, step, step_all, Answer, Plan, State};
+use peer::naive::Naive;
+use peer::{arrivals, build, check, naive, report, start, step, step_all, Answer, Plan, State};
 
 #[track_caller]
 fn expect(image: &[u8], number: u32, table: u32, row: u32) {
@@ -385,28 +387,30 @@ fn each_hop_has_its_own_rate() {
 /// written down here and in no other test.
 #[test]
 fn sizes_are_the_papers() {
-    assert_eq!((TRAILER, LONGEST), (92, 64_604));
+    assert_eq!((TRAILER, LONGEST), (92, 64_860));
     let image = case_a().encode();
     assert_eq!(image.len(), 156);
     assert_eq!(image[152..], [64, 0, 0, 0]);
 }
 
-/// An image of case B with link rows of three words.
+/// An image of case B with link rows of three words, or of four.
 #[test]
 fn old_link_rows_are_refused() {
-    let mut image = case_b().encode();
-    let (begin, rows) = Trailer::read(&image).tables[LINK as usize - 1];
-    assert_eq!(rows, 1);
-    let gone = (width(LINK) - 3) * WORD;
-    let rate = begin as usize + 3 * WORD;
-    image.drain(rate..rate + gone);
-    for table in LINK as usize..TABLES {
-        let at = image.len() - TRAILER + WORD * (2 + 2 * table);
-        let offset = word_at(&image, at) - gone as u32;
-        set_word(&mut image, at, offset);
+    for words in [3, 4] {
+        let mut image = case_b().encode();
+        let (begin, rows) = Trailer::read(&image).tables[LINK as usize - 1];
+        assert_eq!(rows, 1);
+        let gone = (width(LINK) - words) * WORD;
+        let end = begin as usize + words * WORD;
+        image.drain(end..end + gone);
+        for table in LINK as usize..TABLES {
+            let at = image.len() - TRAILER + WORD * (2 + 2 * table);
+            let offset = word_at(&image, at) - gone as u32;
+            set_word(&mut image, at, offset);
+        }
+        point_back(&mut image);
+        expect(&image, 3, 0, 0);
     }
-    point_back(&mut image);
-    expect(&image, 3, 0, 0);
 }
 
 /// Request 3: chains over several messages.
@@ -530,4 +534,137 @@ fn chains_are_asked_of_every_job() {
     expect(&plan.encode(), 0, 0, 0);
     plan.chains = rows_of(&[[0, 1, 6]]);
     expect(&plan.encode(), 31, 10, 0);
+}
+
+/// Request 7: cable delay between two bounds. Case B has a delay of 1.
+#[test]
+fn b_with_a_lowest_delay() {
+    for (delay, lowest, number, table) in [
+        (1, 0, 0, 0),
+        (1, 1, 0, 0),
+        (1, 2, 6, 6),
+        (1, u32::MAX, 6, 6),
+        (0, 0, 0, 0),
+        (0, 1, 6, 6),
+        (2, 0, 20, 7),
+        (2, 2, 20, 7),
+        (1_000_000, 1_000_000, 20, 7),
+        (1_000_000, 1_000_001, 6, 6),
+        (1_000_001, 0, 6, 6),
+        (1_000_001, 1_000_001, 6, 6),
+    ] {
+        let set = |plan: &mut Plan| (plan.links[0][2], plan.links[0][4]) = (delay, lowest);
+        changed(case_b(), set, number, table, 0);
+    }
+}
+
+/// Each link has bounds of its own, which are asked with all else of its row.
+#[test]
+fn lowest_delays_are_asked_row_by_row() {
+    let with = |lowest: [u32; 2], change: fn(&mut Plan)| {
+        let mut plan = two_hops([704, 88], 11);
+        [plan.links[0][4], plan.links[1][4]] = lowest;
+        change(&mut plan);
+        plan.encode()
+    };
+    expect(&with([3, 5], |_| ()), 0, 0, 0);
+    expect(&with([4, 5], |_| ()), 6, 6, 0);
+    expect(&with([3, 6], |_| ()), 6, 6, 1);
+    expect(&with([4, 6], |_| ()), 6, 6, 0);
+    expect(&with([3, 6], |plan| plan.links[0][3] = 0), 6, 6, 0);
+    expect(&with([4, 5], |plan| plan.links[1][3] = 0), 6, 6, 0);
+    expect(&with([4, 5], |plan| plan.streams[0][4] = 45), 6, 6, 0);
+    expect(&with([4, 5], |plan| plan.tasks[0][3] = 0), 6, 3, 0);
+    expect(&with([4, 5], |plan| plan.frames.reverse()), 32, 8, 1);
+    expect(&with([4, 5], |plan| plan.windows[0][2] = 0), 6, 6, 0);
+}
+
+/// 18 and 20 take the highest delay, whatever the lowest is.
+#[test]
+fn the_highest_delay_counts() {
+    for lowest in [0, 2, 3] {
+        let with = |start: u32| {
+            let mut plan = two_hops([704, 88], start);
+            [plan.links[0][4], plan.links[1][4]] = [lowest; 2];
+            plan.encode()
+        };
+        expect(&with(11), 0, 0, 0);
+        expect(&with(10), 18, 8, 1);
+        expect(&with(26), 0, 0, 0);
+        expect(&with(27), 20, 7, 0);
+    }
+}
+
+/// The answer, and what is in four words that were all 7 before, so many of
+/// them lent.
+fn arrivals_in(image: &[u8], frame: u32, lent: usize) -> (Answer, [u32; 4]) {
+    let [mut words, mut naive] = [[7; 4]; 2];
+    let answer = arrivals(image, frame, &mut words[..lent]);
+    let other = naive::arrivals(image, frame, &mut naive[..lent]);
+    assert_eq!((answer, words), (other, naive));
+    (answer, words)
+}
+
+/// Frames 6 to 7 and 11 to 19, delays of at most 3 and 5, P is 1.
+#[test]
+fn frames_arrive_between_two_ticks() {
+    for (lowest, first, second) in [
+        ([0, 0], [7, 10], [19, 24]),
+        ([3, 5], [10, 10], [24, 24]),
+        ([1, 4], [8, 10], [23, 24]),
+    ] {
+        let mut plan = two_hops([704, 88], 11);
+        [plan.links[0][4], plan.links[1][4]] = lowest;
+        let image = plan.encode();
+        for (frame, [earliest, latest]) in [(0, first), (1, second)] {
+            for lent in 2..=4 {
+                let (answer, words) = arrivals_in(&image, frame, lent);
+                assert!(answer.is_accepted());
+                assert_eq!(words, [earliest, latest, 7, 7]);
+            }
+        }
+    }
+}
+
+/// First the plan, then the frame, then the words.
+#[test]
+fn arrivals_are_refused_in_order() {
+    let refused = |plan: &Plan, frame: u32, lent: usize, answer: Answer| {
+        assert_eq!(arrivals_in(&plan.encode(), frame, lent), (answer, [7; 4]));
+    };
+    let mut late = case_b();
+    late.streams[0][2] = 12;
+    for lent in 0..=4 {
+        for frame in [0, 1, u32::MAX] {
+            refused(&late, frame, lent, Answer::at(21, 7, 0));
+        }
+        for frame in [1, 2, 1 << 30, u32::MAX] {
+            refused(&case_b(), frame, lent, Answer::at(5, 8, frame));
+        }
+        refused(&case_a(), 0, lent, Answer::at(5, 8, 0));
+    }
+    for lent in 0..=1 {
+        refused(&case_b(), 0, lent, Answer::plain(26));
+    }
+}
+
+/// A part of a word does not count, and is not written.
+#[test]
+fn arrivals_are_whole_words() {
+    let image = case_b().encode();
+    for length in 0..=20 {
+        let mut expected = vec![7; length];
+        let number = match expected.get_mut(..8) {
+            None => 26,
+            Some(words) => {
+                words.copy_from_slice(&[8, 0, 0, 0, 9, 0, 0, 0]);
+                0
+            }
+        };
+        for by in [&Peer as &dyn Boundary, &Naive] {
+            let mut lent = vec![7; length];
+            let answer = by.arrivals(&image, 0, &mut lent);
+            assert_eq!((answer, &lent), (number, &expected));
+        }
+    }
 }

@@ -71,6 +71,8 @@ enum Fault {
     Gives27,
     BuildsOtherwise,
     BuildsNothing,
+    EarliestATickLate,
+    LatestATickEarly,
 }
 
 use Fault::*;
@@ -89,6 +91,16 @@ impl Boundary for Faulty {
         }
         let answer = Peer.build(image, lane, words);
         words[12] ^= u8::from(self.0 == BuildsOtherwise);
+        answer
+    }
+
+    fn arrivals(&self, image: &[u8], frame: u32, ticks: &mut [u8]) -> u64 {
+        let answer = Peer.arrivals(image, frame, ticks);
+        match self.0 {
+            EarliestATickLate => ticks[0] += 1,
+            LatestATickEarly => ticks[4] -= 1,
+            _ => {}
+        }
         answer
     }
 
@@ -208,6 +220,22 @@ fn each_fault_breaks_its_claims() {
     }
 }
 
+/// Arrivals that are a tick off, in whichever cycle a run starts.
+#[test]
+fn wrong_arrivals_break_their_claim() {
+    let plan = case_b();
+    let choices = choices(&plan, plan.precision, &mut Rng::new(1));
+    for fault in [EarliestATickLate, LatestATickEarly] {
+        for cycle in [0, 7, u64::MAX - 1] {
+            let tables = Tables::built(&plan, &Faulty(fault)).expect("case B is accepted");
+            let run = Run::make(&Peer, &tables, cycle, &all_lanes(30));
+            let report = examine(&plan, &tables, &run, &choices);
+            assert!(report.violations.keys().eq([&Claim::Crossed]), "{report:?}");
+            assert_eq!(report.violations[&Claim::Crossed].after, 8);
+        }
+    }
+}
+
 /// A fault in cycle c + 1 breaks no claim before it.
 #[test]
 fn a_completed_cycle_stands() {
@@ -247,6 +275,7 @@ fn implementations_are_compared() {
     for (fault, what) in [
         (ShowsNextEntry, "claim: Shows"),
         (BuildsOtherwise, "tables differ"),
+        (EarliestATickLate, "tables differ"),
         (BuildsNothing, "refused with 0x19"),
     ] {
         let failure = simulate(&few, &[&Peer, &Faulty(fault)]).expect_err("a fault");
@@ -267,7 +296,7 @@ fn failures_are_printed_whole() {
         "\ncalls: start in cycle 0, then ",
         "\nclaim: Shows, call ",
         "\nafter: ",
-        "\nclocks: any",
+        "\nclocks and delays: any",
     ] {
         assert!(text.contains(part), "{part:?} is missing: {text}");
     }
@@ -289,7 +318,7 @@ type Promise = fn(&mut Plan);
 /// Each claim fails for a reason of its own. Case B meets its limits exactly.
 #[test]
 fn each_claim_fails_alone() {
-    let promises: [(Promise, &[Claim]); 13] = [
+    let promises: [(Promise, &[Claim]); 14] = [
         (|_| (), &[]),
         (|plan| plan.tasks[0][3] -= 1, &[Claim::Budget]),
         (|plan| plan.vcpus[1] = row_of([0]), &[Claim::Core]),
@@ -300,11 +329,15 @@ fn each_claim_fails_alone() {
             &[Claim::Window],
         ),
         (|plan| plan.windows[0] = row_of([0, 1, 5]), &[]),
-        (|plan| plan.links[0][2] += 1, &[Claim::Arrived]),
+        (
+            |plan| plan.links[0][2] += 1,
+            &[Claim::Crossed, Claim::Arrived],
+        ),
+        (|plan| plan.links[0][4] = 1, &[]),
         (|plan| plan.streams[0][4] += 1, &[Claim::Arrived]),
         (|plan| plan.links[0][3] -= 1, &[Claim::Arrived]),
         (|plan| plan.links[0][3] += 1, &[]),
-        (|plan| plan.links[0][3] *= 2, &[]),
+        (|plan| plan.links[0][3] *= 2, &[Claim::Crossed]),
         (|plan| plan.streams[0][2] -= 1, &[Claim::Latency]),
     ];
     for (number, (promise, claims)) in promises.into_iter().enumerate() {

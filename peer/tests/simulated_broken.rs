@@ -6,8 +6,8 @@ use cases::{case_b, case_chain, two_hops, two_rows};
 use peer::generate::{kept_core, shared_buffer, tiny};
 use peer::image::{row_of, rows_of, Piece, Window};
 use peer::simulate::{
-    choices, edges, only_one_clock, survey, unchecked, Claim, Clocks, Dial, Edge, Noticed, Report,
-    Settings, QUESTIONS,
+    choices, edges, only_one_clock, survey, unchecked, Choice, Claim, Clocks, Delays, Dial, Edge,
+    Noticed, Report, Settings, QUESTIONS,
 };
 use peer::{check, Plan, Rng};
 
@@ -66,13 +66,90 @@ fn clocks_beyond_the_precision() {
     assert!(tight >= 100 && loose >= 5, "{tight} {loose}");
 }
 
+/// A plan that would bear one tick more of every delay bears crossings that
+/// take as long, and one that would not shows a violation. Either way frames
+/// come later than the latest tick.
+#[test]
+fn delays_beyond_the_highest() {
+    let [mut tight, mut loose] = [0, 0];
+    for number in 0..200 {
+        let plan = tiny(&mut Rng::for_case(9, number));
+        let mut wider = plan.clone();
+        wider.links.iter_mut().for_each(|link| link[2] += 1);
+        let bears = check(&wider.encode()).is_accepted();
+        let mut choices = choices(&plan, plan.precision, &mut Rng::new(1));
+        for choice in &mut choices {
+            choice.delays = Delays::from_fn(&plan, |_, _, [_, highest]| highest + 1);
+        }
+        let report = unchecked(&plan, &choices);
+        let mut claims = vec![&Claim::Crossed];
+        claims.extend((!bears).then_some(&Claim::Arrived));
+        assert!(report.violations.keys().eq(claims), "{plan:?}");
+        *(if bears { &mut loose } else { &mut tight }) += 1;
+    }
+    assert!(tight >= 100 && loose >= 5, "{tight} {loose}");
+}
+
+/// The clocks of case B with which a message is late whose crossing in one
+/// cycle takes so many ticks.
+fn late_clocks(cycle: usize, delay: u32) -> Vec<[u32; 2]> {
+    let plan = case_b();
+    let delays = Delays::from_fn(&plan, |at, _, [_, highest]| match at == cycle {
+        true => delay,
+        false => highest,
+    });
+    let is_late = |by: &[u32; 2]| {
+        let choice = Choice {
+            clocks: Clocks::from_fn(&plan, |node| by[node as usize]),
+            delays: delays.clone(),
+        };
+        let report = unchecked(&plan, &[choice]);
+        assert_eq!(report.has(Claim::Crossed), delay > 1);
+        if let Some(late) = report.violations.get(&Claim::Arrived) {
+            assert_eq!(late.after, 20 * cycle + 11, "{late}");
+        }
+        report.has(Claim::Arrived)
+    };
+    let clocks = [[0, 0], [0, 1], [1, 0], [1, 1]];
+    clocks.into_iter().filter(is_late).collect()
+}
+
+/// Case B with crossings of any delay, in either cycle: from the lowest to the
+/// highest the message arrives, and one tick later it comes too late, with the
+/// clocks one way round.
+#[test]
+fn case_b_with_each_delay() {
+    for cycle in [0, 1] {
+        assert_eq!(late_clocks(cycle, 0), [[0; 2]; 0]);
+        assert_eq!(late_clocks(cycle, 1), [[0; 2]; 0]);
+        assert_eq!(late_clocks(cycle, 2), [[0, 1]]);
+        assert_eq!(late_clocks(cycle, 3), [[0, 0], [0, 1], [1, 1]]);
+    }
+}
+
+/// A crossing that is shorter than the lowest delay harms nobody, but comes
+/// before the earliest tick.
+#[test]
+fn case_b_below_the_lowest_delay() {
+    let mut plan = case_b();
+    plan.links[0][4] = 1;
+    for (delay, claims) in [(1, &[][..]), (0, &[Claim::Crossed])] {
+        let choice = Choice {
+            delays: Delays::from_fn(&plan, |_, _, _| delay),
+            ..Choice::of(&plan, Clocks::equal(&plan))
+        };
+        let found = unchecked(&plan, &[choice]).violations;
+        assert_eq!(found.into_keys().collect::<Vec<Claim>>(), claims);
+    }
+}
+
 /// Case B and its two refusals, each seen with the clocks one way round only.
 #[test]
 fn case_b_with_each_choice_of_clocks() {
     let ahead = |by: [u32; 2]| Clocks::from_fn(&case_b(), |node| by[node as usize]);
     let all = [[0, 0], [0, 1], [1, 0], [1, 1]];
     let broken = |plan: &Plan, claim: Claim| {
-        let report = |by: &[u32; 2]| unchecked(plan, &[ahead(*by)]);
+        let report = |by: &[u32; 2]| unchecked(plan, &[Choice::of(plan, ahead(*by))]);
         let breaks = |by: &[u32; 2]| report(by).violations.keys().eq([&claim]);
         let holds = |by: &[u32; 2]| report(by).violations.is_empty();
         assert!(all.iter().all(|by| breaks(by) || holds(by)));
@@ -108,7 +185,7 @@ fn a_chain_with_each_choice_of_clocks() {
         let found: Vec<[u32; 2]> = all
             .into_iter()
             .filter(|by| {
-                let report = unchecked(&plan, &[ahead(*by)]);
+                let report = unchecked(&plan, &[Choice::of(&plan, ahead(*by))]);
                 assert!(report.violations.keys().all(|claim| *claim == Claim::Chain));
                 report.has(Claim::Chain)
             })

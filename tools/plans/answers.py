@@ -3,11 +3,12 @@ import subprocess
 from dataclasses import dataclass
 
 from .ordering import fall
-from .questions import wording
+from .questions import RANGES, wording
 from .schema import BY_KIND, kind_of
 from .troubles import trouble
 
 ORDER = 32  # the question of the rows' order
+VALUES = 6  # the question of the values' ranges
 
 
 @dataclass(frozen=True)
@@ -56,7 +57,9 @@ def fall_of(plan, answer):
 
 
 def reason(plan, answer):
-    """For question 32, the words that decide and where the row belongs; nothing for other answers."""
+    """For question 6 the ranges of the row's values, for 32 the words that decide and where the row belongs; nothing for other answers."""
+    if answer.number == VALUES and answer.kind in RANGES:
+        return f"In a {answer.kind}: {RANGES[answer.kind]}."
     found = fall_of(plan, answer)
     if not found:
         return ""

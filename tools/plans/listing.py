@@ -77,8 +77,9 @@ def _work(plan, meaning, number):
     return span(piece.start + meaning.piece_charge(piece.task), piece.start + piece.length)
 
 
-def _frame_end(plan, meaning, number):
-    return plan.rows["frame"][number].start + meaning.frame_ticks(number)
+def _delays(plan, meaning, number):
+    link = plan.rows["link"][number]
+    return flagged(span(link.lowest, link.delay), link.lowest > link.delay)
 
 
 def path_words(plan, number):
@@ -106,9 +107,13 @@ EXTRAS = {
         "core": lambda plan, meaning, number: _core_name(plan, meaning.core_of_piece(number)),
         "work": _work,
     },
+    "link": {
+        "delays": _delays,
+    },
     "frame": {
         "ticks": lambda plan, meaning, number: meaning.frame_ticks(number),
-        "end": _frame_end,
+        "end": lambda plan, meaning, number: meaning.frame_end(number),
+        "arrives": lambda plan, meaning, number: meaning.arrival(number),
     },
     "chain": {
         "path": lambda plan, meaning, number: path_words(plan, number),
@@ -137,14 +142,15 @@ def _job_words(plan, job):
 
 
 def messages(plan, meaning):
-    """Each message step by step: from when it may start, when it does, and the slack between."""
-    header = ["stream", "job", "step", "ready", "start", "end", "slack"]
+    """Each message step by step: from when it may start, when it does, the slack between, and when a hop arrives."""
+    header = ["stream", "job", "step", "ready", "start", "end", "slack", "arrives"]
     lines = []
     for stream in range(len(plan.rows["stream"])):
         for message in meaning.messages(stream):
             name = plan.name("stream", stream)
             lines += [[name, message.job, *line] for line in _message_lines(plan, message)]
-    return "messages (ready: the step before has ended or arrived, delay and P counted)", header, lines
+    ready = "the step before has ended or arrived, highest delay and P counted"
+    return f"messages (ready: {ready}; arrives: by the sending node's clock)", header, lines
 
 
 def _message_lines(plan, message):
@@ -152,15 +158,15 @@ def _message_lines(plan, message):
     for step in message.steps:
         link = plan.name("link", plan.rows["frame"][step.frame].link)
         title = f"hop {step.hop} {plan.name('frame', step.frame)} on {link}"
-        yield [title, shown(step.ready), step.start, step.end, slack(step.start, step.ready)]
+        yield [title, shown(step.ready), step.start, step.end, slack(step.start, step.ready), shown(step.arrival)]
     yield _end_line(plan, "receiver", message.receiver, message.ready)
-    yield [f"latency {shown(message.latency)} of {message.limit}", "", "", "", slack(message.limit, message.latency)]
+    yield [f"latency {shown(message.latency)} of {message.limit}", "", "", "", slack(message.limit, message.latency), ""]
 
 
 def _end_line(plan, role, job, ready):
     if job is None or not job.pieces:
-        return [f"{role} has no piece", "", "", "", "-"]
-    return [f"{role} {plan.name('task', job.task)}", shown(ready), job.first, job.last, slack(job.first, ready)]
+        return [f"{role} has no piece", "", "", "", "-", ""]
+    return [f"{role} {plan.name('task', job.task)}", shown(ready), job.first, job.last, slack(job.first, ready), ""]
 
 
 def holds(plan, meaning):

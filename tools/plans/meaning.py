@@ -1,13 +1,24 @@
-"""What rows mean: jobs, charges, frame lengths, messages and holds, by the plan paper's words.
+"""What rows mean: jobs, charges, frame lengths and arrivals, messages and holds, by the plan paper's words.
 
 Any readable plan can be asked, also one that breaks questions: what a missing row would tell is None, and jobs without
 a piece have no first start and last end.
 """
 from collections import defaultdict
 from dataclasses import dataclass
+from typing import NamedTuple
 
 AROUND_PAYLOAD = 42  # bytes of a tagged Ethernet frame besides its payload: header, check, preamble and gap
 BITS_OF_BYTE = 8
+
+
+class Arrival(NamedTuple):
+    """The first and the last tick at which a frame may arrive, as read on the sending node's clock."""
+
+    earliest: int
+    latest: int
+
+    def __str__(self):
+        return f"{self.earliest}..{self.latest}"
 
 
 @dataclass(frozen=True)
@@ -27,14 +38,15 @@ class Job:
 
 @dataclass(frozen=True)
 class Step:
-    """A hop of a message: its frame row, when it may start, when it does, and when all clocks see it arrived."""
+    """A hop of a message: its frame row, when it may start, when it does, its arrival, and from when on all clocks see it arrived."""
 
     hop: int
     frame: int
     ready: int
     start: int
     end: int
-    arrival: int
+    arrival: Arrival
+    seen: int
 
 
 @dataclass(frozen=True)
@@ -129,6 +141,19 @@ class Meaning:
         bits = BITS_OF_BYTE * (stream.payload + AROUND_PAYLOAD)
         return -(-bits // link.rate)
 
+    def frame_end(self, frame):
+        return self.plan.rows["frame"][frame].start + self.frame_ticks(frame)
+
+    def arrival(self, frame):
+        """A frame's end plus the lowest delay of its link, and plus the highest; None where there is no such link."""
+        link, end = self.plan.row("link", self.plan.rows["frame"][frame].link), self.frame_end(frame)
+        return Arrival(end + link.lowest, end + link.delay) if link else None
+
+    def seen(self, frame):
+        """From when on every clock sees a frame arrived: P after its latest arrival."""
+        arrival = self.arrival(frame)
+        return (arrival.latest if arrival else self.frame_end(frame)) + self.plan.precision
+
     def job_count(self, task):
         """H/T, rounded down; 0 for a task that is not there."""
         row = self.plan.row("task", task)
@@ -174,7 +199,7 @@ class Meaning:
     def _message(self, stream, row, number):
         sender, receiver = self.job(row.sender, number), self.job(row.receiver, number)
         steps = self.steps(stream, number, sender.last if sender else None)
-        ready = steps[-1].arrival if steps else sender and sender.last
+        ready = steps[-1].seen if steps else sender and sender.last
         latency = None
         if sender and receiver and sender.pieces and receiver.pieces:
             latency = receiver.last - sender.first + self.plan.precision
@@ -184,15 +209,12 @@ class Meaning:
         """The hops of a stream's job by number; the first may start at ready."""
         steps = []
         for frame in self.frames.get((stream, number), ()):
-            steps.append(self._step(frame, steps[-1].arrival if steps else ready))
+            steps.append(self._step(frame, steps[-1].seen if steps else ready))
         return steps
 
     def _step(self, number, ready):
         frame = self.plan.rows["frame"][number]
-        link = self.plan.row("link", frame.link)
-        end = frame.start + self.frame_ticks(number)
-        arrival = end + (link.delay if link else 0) + self.plan.precision
-        return Step(frame.hop, number, ready, frame.start, end, arrival)
+        return Step(frame.hop, number, ready, frame.start, self.frame_end(number), self.arrival(number), self.seen(number))
 
     def latency_limit(self, stream):
         """E, or what an E of 0 stands for."""

@@ -31,6 +31,15 @@ QUESTIONS = {
     31: "is each job's last end of the last task less first start of the first, plus P, at most the limit?",
 }
 
+# What question 6 asks of a row's values, by the keys of texts; kinds that it passes over are not here.
+RANGES = {
+    "core": "node at most 15, d and v at most 1,000",
+    "task": "period at least 1 and dividing the cycle, budget at least 1 and at most deadline, deadline at most period",
+    "link": "from and to at most 15 and different, delay at most 1,000,000, rate 1 to 10,000, lowest at most delay",
+    "stream": "sender and receiver different, latency at most 1,000,000, hops 1 to 8, payload 46 to 1,500",
+    "buffer": "number at most 63, writer and reader different",
+}
+
 
 def wording(number):
     return QUESTIONS.get(number, "not known to this tool")

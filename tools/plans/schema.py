@@ -33,7 +33,9 @@ TABLES = (
     Table("task", 0, 256, RowOf("vcpu"), Mask("cores", "core"), Number("period"), Number("budget"), Number("deadline")),
     Table("window", 0, 1024, RowOf("vcpu"), Span("at")),
     Table("piece", 0, 2048, RowOf("task"), Number("job"), Span("at")),
-    Table("link", 0, 64, Number("from", "from_node"), Number("to", "to_node"), Number("delay"), Number("rate")),
+    Table(
+        "link", 0, 64, Number("from", "from_node"), Number("to", "to_node"), Number("delay"), Number("rate"), Number("lowest", default="0"),
+    ),
     Table("stream", 0, 64, RowOf("sender", "task"), RowOf("receiver", "task"), Number("latency"), Number("hops"), Number("payload")),
     Table("frame", 0, 512, RowOf("stream"), Number("job"), Number("hop"), RowOf("link"), Number("at", "start")),
     Table("buffer", 0, 64, Number("number"), RowOf("writer", "task"), RowOf("reader", "task")),

@@ -109,7 +109,8 @@ class Commands(unittest.TestCase):
         self.assertIn("none.image: cannot be read", ran.stderr)
 
     def test_broken_layouts_are_told(self):
-        for name, number in (("q01-empty", 1), ("q02-last-word", 2), ("q02-nine-tables", 2), ("q03-gap", 3), ("q03-old-links", 3)):
+        older = ("q03-old-links", 3), ("q03-links-without-lowest", 3)
+        for name, number in (("q01-empty", 1), ("q02-last-word", 2), ("q02-nine-tables", 2), ("q03-gap", 3), *older):
             ran = run("text", EXAMPLES / f"{name}.image")
             self.assertEqual((ran.returncode, ran.stdout), (1, ""))
             self.assertIn(f"{name}.image: no readable image (question {number})", ran.stderr)
@@ -136,6 +137,13 @@ class Commands(unittest.TestCase):
         self.assertEqual(ran.returncode, 1)
         self.assertIn("at task decode; no to question 13", ran.stdout)
         self.assertIn(f"{text}:4: this row", ran.stdout)
+
+    def test_check_of_values_out_of_range(self):
+        ran = run("check", EXAMPLES / "q06-lowest-above-delay.txt", "--plancheck", self.program("6 6 2"))
+        first, ranges, *lines = ran.stdout.splitlines()
+        self.assertEqual(first, "refused (6 6 2) at link riser; no to question 6: are the row's values in range?")
+        self.assertTrue(ranges.startswith("In a link: ") and ranges.endswith("lowest at most delay."), ranges)
+        self.assertEqual([line.rsplit("/", 1)[-1] for line in lines], ["fibre.txt:27: this row", "q06-lowest-above-delay.txt:6: this row"])
 
     def test_check_of_rows_out_of_order(self):
         rows = ("piece task=decode job=0 at=6..8", "window vcpu=guest at=8..9", "piece task=decode job=0 at=0..1")

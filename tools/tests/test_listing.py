@@ -33,16 +33,38 @@ class Listings(unittest.TestCase):
 
     def test_messages(self):
         lines = words("case-b")
-        self.assertIn(["labels", "0", "hop", "0", "frame0", "on", "cable", "6", "6", "8", "0"], lines)
+        self.assertIn(["labels", "0", "hop", "0", "frame0", "on", "cable", "6", "6", "8", "0", "8..9"], lines)
         self.assertIn(["labels", "0", "receiver", "sort", "10", "10", "14", "0"], lines)
         self.assertIn(["labels", "0", "latency", "13", "of", "13", "0"], lines)
 
     def test_frames_end_by_their_links_rate(self):
         lines = words("two-rates")
-        self.assertIn(["0", "frame0", "labels", "0", "0", "cable", "6", "2", "8"], lines)
-        self.assertIn(["1", "frame1", "labels", "0", "1", "onward", "10", "4", "14"], lines)
-        self.assertIn(["labels", "0", "hop", "1", "frame1", "on", "onward", "10", "10", "14", "0"], lines)
+        self.assertIn(["0", "frame0", "labels", "0", "0", "cable", "6", "2", "8", "8..9"], lines)
+        self.assertIn(["1", "frame1", "labels", "0", "1", "onward", "10", "4", "14", "14..15"], lines)
+        self.assertIn(["labels", "0", "hop", "1", "frame1", "on", "onward", "10", "10", "14", "0", "14..15"], lines)
         self.assertIn(["labels", "0", "receiver", "sort", "17", "16", "20", "-1", "!"], words("q20-rounded-up"))
+
+    def test_delays_between_two_bounds(self):
+        lines = words("fibre")
+        self.assertIn("0 copper 0 1 1 352 1 1..1".split(), lines)
+        self.assertIn("1 fibre 1 2 9 352 4 4..9".split(), lines)
+        self.assertIn("2 riser 2 3 5 176 6 6..5 !".split(), words("q06-lowest-above-delay"))
+
+    def test_arrivals_have_two_bounds_and_steps_wait_for_the_later(self):
+        lines = words("fibre")
+        self.assertIn("0 frame0 picture 0 0 copper 9 2 11 12..12".split(), lines)
+        self.assertIn("1 frame1 picture 0 1 fibre 14 2 16 20..25".split(), lines)
+        self.assertIn("picture 0 hop 1 frame1 on fibre 14 14 16 0 20..25".split(), lines)
+        self.assertIn("picture 0 hop 2 frame2 on riser 27 27 31 0 33..36".split(), lines)
+        self.assertIn("picture 0 receiver sort 38 38 47 0".split(), lines)
+        self.assertIn("picture 0 hop 2 frame2 on riser 27 26 30 -1 ! 32..35".split(), words("q18-lowest-delay"))
+
+    def test_no_arrival_on_a_link_that_is_not_there(self):
+        plan = load(EXAMPLES / "case-b.txt")
+        plan.rows["frame"] = [plan.rows["frame"][0]._replace(link=7)]
+        lines = [line.split() for line in listing(plan).splitlines()]
+        self.assertIn("0 frame0 labels 0 0 7 6 0 6 -".split(), lines)
+        self.assertIn("labels 0 hop 0 frame0 on 7 6 6 6 0 -".split(), lines)
 
     def test_default_latency(self):
         self.assertIn(["labels", "0", "latency", "22", "of", "20", "-2", "!"], words("q21-default-latency"))

@@ -1,4 +1,4 @@
-"""What rows mean: which windows pay a VCPU switch, and how many ticks a frame takes."""
+"""What rows mean: which windows pay a VCPU switch, how many ticks a frame takes, and when it arrives."""
 import unittest
 
 from support import CASE_A, EXAMPLES
@@ -70,6 +70,59 @@ class FrameTicks(unittest.TestCase):
 
     def test_no_rate_and_no_link(self):
         self.assertEqual((ticks(46, 0), ticks(46, 352, link=1)), (0, 0))
+
+
+def arrival(**link):
+    """The arrival of case B's frame, which ends at 8, and from when on it is seen, by every clock; its link has these words."""
+    plan = load(EXAMPLES / "case-b.txt")
+    plan.rows["link"] = [row._replace(**link) for row in plan.rows["link"]]
+    meaning = Meaning(plan)
+    return meaning.arrival(0), meaning.seen(0)
+
+
+def given_arrivals():
+    """The arrivals of all frames that the library gives, by accepted plan: as examples/arrivals/expected has them, which the gate compares."""
+    given = {}
+    for call in (EXAMPLES.parent / "arrivals" / "expected").read_text().split("$ arrivals ")[1:]:
+        asked, answer, *lines = call.splitlines()
+        if len(asked.split()) == 1 and answer == "0 0 0":
+            given[asked] = [tuple(map(int, line.split()[1:])) for line in lines[:-1]]
+    return given
+
+
+class Arrivals(unittest.TestCase):
+    def test_between_lowest_and_highest_delay(self):
+        self.assertEqual(arrival(delay=7, lowest=3), ((11, 15), 16))
+        self.assertEqual(arrival(delay=7, lowest=0), ((8, 15), 16))
+
+    def test_at_one_tick(self):
+        self.assertEqual(arrival(delay=7, lowest=7), ((15, 15), 16))
+        self.assertEqual(arrival(delay=0, lowest=0), ((8, 8), 9))
+
+    def test_the_lowest_delay_is_0_where_nobody_says_it(self):
+        self.assertEqual(arrival(), ((8, 9), 10))
+
+    def test_in_words(self):
+        self.assertEqual(str(arrival(delay=7, lowest=3)[0]), "11..15")
+
+    def test_steps_wait_for_the_latest_arrival(self):
+        steps = Meaning(load(EXAMPLES / "fibre.txt")).steps(0, 0, ready=9)
+        self.assertEqual([(step.ready, step.end, step.arrival, step.seen) for step in steps], [
+            (9, 11, (12, 12), 14), (14, 16, (20, 25), 27), (27, 31, (33, 36), 38),
+        ])
+
+    def test_no_link(self):
+        plan = load(EXAMPLES / "case-b.txt")
+        plan.rows["link"] = []
+        meaning = Meaning(plan)
+        self.assertEqual((meaning.frame_end(0), meaning.arrival(0), meaning.seen(0)), (6, None, 7))
+
+    def test_those_that_the_library_gives(self):
+        given = given_arrivals()
+        self.assertGreaterEqual(len(given), 4)
+        for name, spans in given.items():
+            meaning = Meaning(load(EXAMPLES / f"{name}.txt"))
+            self.assertEqual([meaning.arrival(frame) for frame in range(len(meaning.plan.rows["frame"]))], spans, name)
 
 
 if __name__ == "__main__":

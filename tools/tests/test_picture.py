@@ -8,6 +8,7 @@ from support import CASE_A, EXAMPLES, SHAPES, generated
 from plans.answers import Answer, explained, parse
 from plans.files import load
 from plans.image import decode
+from plans.model import Plan
 from plans.picture.drawing import View, near, picture
 from plans.picture.style import MARK, TINTS, WINDOW_TINTS
 from plans.reading import read_text
@@ -35,6 +36,23 @@ def chains(elements):
 def parts(line):
     """The (x, y) at which each part of a chain's line begins."""
     return re.findall(r"M([0-9.]+) ([0-9.]+)", line.get("d"))
+
+
+def arrivals(elements):
+    """The bars of arrivals by title, the legend's apart, as (left, right, top, bottom)."""
+    bars = [element for element in elements if element.get("class") == "arrival" and len(element)]
+    return {bar[0].text: edges(bar) for bar in bars}
+
+
+def edges(rect):
+    x, y, width, height = (float(rect.get(key)) for key in ("x", "y", "width", "height"))
+    return x, x + width, y, y + height
+
+
+def blocks(elements, look):
+    """The edges of the rows' blocks of a look, by row name."""
+    rects = [element for element in elements if element.tag == SVG + "rect" and element.get("class").startswith(look) and len(element)]
+    return {rect[0].text.split(":")[0]: edges(rect) for rect in rects}
 
 
 def texts(elements):
@@ -77,7 +95,7 @@ class Pictures(unittest.TestCase):
         blocks = [element for element in elements if element.tag == SVG + "rect" and len(element)]
         widths = {block[0].text.split(":")[0]: float(block.get("width")) for block in blocks}
         self.assertAlmostEqual(widths["frame1"], 2 * widths["frame0"], delta=0.2)
-        self.assertIn("delay 1, rate 200", texts(elements))
+        self.assertIn("delay 0..1, rate 200", texts(elements))
 
     def test_a_vcpu_that_keeps_its_core_has_no_switch(self):
         """Of four windows the first and the last, another VCPU's, show switch ticks; the legend shows some too."""
@@ -113,6 +131,106 @@ class Pictures(unittest.TestCase):
 
     def test_a_chain_without_a_path_has_no_line(self):
         self.assertEqual(len(chains(drawn(load(EXAMPLES / "q30-backwards.txt")))), 1)
+
+
+CLOCK = "by the sending node's clock"
+
+
+def busy_link(delay, lowest):
+    """Case B with seven streams, whose frames of 2 ticks leave every 3 ticks from 6 on, all over the one link."""
+    plan = load(EXAMPLES / "case-b.txt")
+    (link,), (stream,), (frame,) = (plan.rows[kind] for kind in ("link", "stream", "frame"))
+    rows = {
+        "link": [link._replace(delay=delay, lowest=lowest)],
+        "stream": [stream] * 7,
+        "frame": [frame._replace(stream=number, start=6 + 3 * number) for number in range(7)],
+    }
+    return Plan(plan.settings._replace(cycle=60), {**plan.rows, **rows})
+
+
+class Arrivals(unittest.TestCase):
+    def test_bars_from_earliest_to_latest(self):
+        """Fibre's cycle of 60 ticks is 900 pixels wide."""
+        elements = drawn(*example("fibre"))
+        left = min(float(element.get("x")) for element in elements if element.get("class") == "lane")
+        ticks = {title: [(x - left) / 15 for x in bar[:2]] for title, bar in arrivals(elements).items()}
+        self.assertEqual(list(ticks), [f"frame{frame} arrives {span} {CLOCK}" for frame, span in enumerate(("12..12", "20..25", "33..36"))])
+        for (first, last), (earliest, latest) in zip(ticks.values(), ((12, 12), (20, 25), (33, 36))):
+            self.assertAlmostEqual(first, earliest, delta=0.02)
+            self.assertAlmostEqual(last, latest, delta=0.04)
+
+    def test_one_tick_is_a_mark(self):
+        ((_, (left, right, top, bottom)),) = arrivals(drawn(*example("fixed-delay"))).items()
+        self.assertLess(right - left, 0.5)
+        self.assertGreater(bottom - top, 4)
+
+    def test_no_delay_and_no_precision(self):
+        plan = load(EXAMPLES / "case-b.txt")
+        plan.settings = plan.settings._replace(precision=0)
+        plan.rows["link"] = [plan.rows["link"][0]._replace(delay=0)]
+        self.assertEqual(list(arrivals(drawn(plan))), [f"frame0 arrives 8..8 {CLOCK}"])
+
+    def test_frames_tell_their_arrival(self):
+        titles = [element[0].text for element in drawn(*example("fibre")) if len(element)]
+        self.assertIn("frame1: picture job 0 hop 1, 14..16, arrives 20..25", titles)
+
+    def test_bars_lie_in_their_lane_under_its_frames(self):
+        for plan in (example("fibre")[0], busy_link(20, 5), decode(generated("full"))):
+            elements = drawn(plan)
+            lanes = [edges(element) for element in elements if element.get("class") == "lane"][len(plan.rows["core"]):]
+            frames = blocks(elements, "p ")
+            self.assertGreater(len(arrivals(elements)), 2)
+            for title, (_, _, top, bottom) in arrivals(elements).items():
+                row = title.split()[0]
+                _, _, first, last = lanes[plan.rows["frame"][int(row.removeprefix("frame"))].link]
+                self.assertTrue(first < frames[row][3] <= top < bottom <= last, title)
+
+    def test_bars_of_one_link_hide_no_other(self):
+        """Four frames are under way at once, and each has its bar to itself."""
+        bars = list(arrivals(drawn(busy_link(9, 3))).values())
+        self.assertEqual(len(bars), 7)
+        self.assertEqual(len({bar[2] for bar in bars}), 4)
+        for number, (left, right, top, bottom) in enumerate(bars):
+            for other_left, other_right, other_top, other_bottom in bars[:number]:
+                self.assertTrue(right <= other_left or other_right <= left or bottom <= other_top or other_bottom <= top)
+
+    def test_a_lane_has_four_ways_at_most(self):
+        bars = arrivals(drawn(busy_link(40, 30)))
+        self.assertEqual((len(bars), len({bar[2] for bar in bars.values()})), (7, 4))
+
+    def test_arrows_leave_where_their_frames_way_ends(self):
+        elements = drawn(busy_link(9, 3))
+        *waits, _legend = [element for element in elements if element.get("class") == "p-wait"]
+        arrows = [element for element in elements if element.get("class") == "a" and len(element)]
+        leaving = [(arrow.get("x1"), arrow.get("y1")) for arrow in arrows[1::2]]  # each message has one to its frame, then one from it
+        self.assertEqual(leaving, [(wait.get("x2"), wait.get("y2")) for wait in waits])
+        self.assertEqual([float(y) for _, y in leaving], [(top + bottom) / 2 for _, _, top, bottom in arrivals(elements).values()])
+
+    def test_only_arrivals_in_view(self):
+        plan = load(EXAMPLES / "fibre.txt")
+        self.assertEqual(list(arrivals(drawn(plan, view=View(10, 20)))), [f"frame0 arrives 12..12 {CLOCK}"])
+        elements = drawn(plan, view=View(22, 34))
+        lane = next(edges(element) for element in elements if element.get("class") == "lane")
+        bars = arrivals(elements)
+        self.assertEqual(list(bars), [f"frame1 arrives 20..25 {CLOCK}", f"frame2 arrives 33..36 {CLOCK}"])
+        for left, right, *_ in bars.values():
+            self.assertTrue(lane[0] <= left < right <= lane[1] + 0.1)
+
+    def test_a_lowest_delay_above_the_delay_can_be_drawn(self):
+        self.assertIn(f"frame2 arrives 37..36 {CLOCK}", arrivals(drawn(*example("q06-lowest-above-delay"))))
+
+    def test_legend(self):
+        self.assertIn("arrival, earliest to latest", texts(drawn(*example("case-b"))))
+        self.assertNotIn("arrival, earliest to latest", texts(drawn(*example("case-a"))))
+
+    def test_chains_go_along_a_frame_until_it_has_arrived_at_the_latest(self):
+        """P after the latest arrival, at 14, 27 and 38, where the next part begins."""
+        elements = drawn(*example("fibre"))
+        left = min(float(element.get("x")) for element in elements if element.get("class") == "lane")
+        (line,) = chains(elements)
+        spans = [((float(x1) - left) / 15, (float(x2) - left) / 15) for x1, y1, x2, y2 in
+                 re.findall(r"M([0-9.]+) ([0-9.]+)L([0-9.]+) ([0-9.]+)", line.get("d")) if y1 == y2]
+        self.assertEqual([(round(first), round(last)) for first, last in spans], [(2, 9), (9, 14), (14, 27), (27, 38), (38, 47)])
 
 
 class Marks(unittest.TestCase):
@@ -176,7 +294,7 @@ class Views(unittest.TestCase):
         lanes = [element for element in elements if element.get("class") == "lane"]
         left, width = float(lanes[0].get("x")), float(lanes[0].get("width"))
         blocks = [element for element in elements if element.tag == SVG + "rect" and len(element)]
-        self.assertEqual(len(blocks), 5)
+        self.assertEqual(len(blocks), 6)
         for block in blocks:
             self.assertGreaterEqual(float(block.get("x")), left)
             self.assertLessEqual(float(block.get("x")) + float(block.get("width")), left + width + 0.2)

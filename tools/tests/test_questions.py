@@ -5,7 +5,8 @@ import unittest
 from support import EXAMPLES, ROOT
 
 from plans.answers import parse
-from plans.questions import QUESTIONS
+from plans.questions import QUESTIONS, RANGES
+from plans.schema import BY_KIND
 
 NAMED = re.compile(r"q(\d\d)-")
 
@@ -26,6 +27,11 @@ class Questions(unittest.TestCase):
     def test_each_has_an_example_of_its_name(self):
         named = {int(NAMED.match(path.name)[1]) for path in EXAMPLES.glob("q*.txt")}
         self.assertEqual(named, set(QUESTIONS))
+
+    def test_ranges_name_each_value_of_a_row(self):
+        for kind, words in RANGES.items():
+            values = {column.key for column in BY_KIND[kind].columns if not column.names_rows_of}
+            self.assertLessEqual(values, set(re.findall(r"\w+", words)), kind)
 
     def test_examples_are_refused_by_the_question_of_their_name(self):
         for path in EXAMPLES.glob("q*.lines"):

@@ -74,6 +74,14 @@ class RoundTrips(unittest.TestCase):
         self.assertFalse(readable(longer))
         self.assertRaisesRegex(BadValue, "question 3", decode, longer)
 
+    def test_lowest_delays(self):
+        """From 0 to the delay, and such as question 6 refuses."""
+        plan = load(EXAMPLES / "fibre.txt")
+        for lowest in (0, 1, 8, 9, 10, 2**32 - 1):
+            plan.rows["link"] = [link._replace(lowest=lowest) for link in plan.rows["link"]]
+            self.assertEqual(again(encode(plan)), encode(plan), lowest)
+            self.assertEqual(decode(encode(plan)).rows["link"], plan.rows["link"])
+
     def test_highest_words(self):
         image = encode(decode(generated("small")))
         trailer = len(image) - TRAILER_BYTES

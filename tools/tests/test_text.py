@@ -7,7 +7,7 @@ from support import CASE_A, case_a_with
 
 from plans.image import encode, pack, unpack
 from plans.reading import read_text
-from plans.schema import BY_KIND, TABLES, TRAILER_BYTES, TRAILER_WORDS
+from plans.schema import BY_KIND, KINDS, TABLES, TRAILER_BYTES, TRAILER_WORDS
 from plans.troubles import Trouble
 from plans.writing import write_text
 
@@ -24,6 +24,9 @@ def troubles(text):
 def image_of(more=""):
     """The image of case A with more lines."""
     return encode(read_text("p.txt", CASE_A + more))
+
+
+LINK = "link cable from=0 to=1 delay=3 rate=352"
 
 
 def with_word(image, number, word):
@@ -78,6 +81,19 @@ class Reading(unittest.TestCase):
         written = write_text(read_text("p.txt", CASE_A + "chain far first=decode last=9 limit=0\n"))
         self.assertIn("chain  far  first=decode  last=9  limit=0", written)
 
+    def test_a_links_lowest_delay(self):
+        """The row's last word; 0 where it is left out, as texts of before it do."""
+        for more, lowest in (("", 0), (" lowest=0", 0), (" lowest=2", 2), (" lowest=3", 3), (" lowest=4294967295", 2**32 - 1)):
+            image = image_of(LINK + more + "\n")
+            self.assertEqual(unpack(image)[:-TRAILER_WORDS], (*unpack(image_of())[:-TRAILER_WORDS], 0, 1, 3, 352, lowest), more)
+
+    def test_a_links_lowest_delay_is_written_back(self):
+        for more, lowest in (("", 0), (" lowest=2", 2)):
+            self.assertIn(f"delay=3  rate=352  lowest={lowest}\n", write_text(read_text("p.txt", CASE_A + LINK + more + "\n")))
+
+    def test_a_variant_changes_a_lowest_delay_that_its_base_leaves_out(self):
+        self.assertEqual(image_of(LINK + "\nchange link cable lowest=2\n"), image_of(LINK + " lowest=2\n"))
+
     def test_raw_changes(self):
         image = image_of()
         trailer = len(unpack(image)) - TRAILER_WORDS
@@ -100,6 +116,16 @@ class Reading(unittest.TestCase):
         moved = {*range(4, TRAILER_WORDS - 1, 2), TRAILER_WORDS - 1}  # the offsets of later tables, and the last word
         trailer = [word - 4 * gone * (number in moved) for number, word in enumerate(whole[-TRAILER_WORDS:])]
         self.assertEqual(cut[-TRAILER_WORDS:], tuple(trailer))
+
+    def test_links_as_older_images_have_them(self):
+        """Without a lowest delay, and without a rate too; the trailer tells that the streams follow."""
+        link = BY_KIND["link"].row(to_node=1, delay=3, rate=352, lowest=2)
+        for words in (3, 4):
+            image = unpack(image_of(f"{LINK} lowest=2\nraw link.words={words}\n"))
+            rows, trailer = unpack(image_of())[:-TRAILER_WORDS], image[-TRAILER_WORDS:]
+            self.assertEqual(image[:-TRAILER_WORDS], rows + link[:words])
+            stream = 2 + 2 * KINDS.index("stream")
+            self.assertEqual(trailer[stream], 4 * (len(rows) + words))
 
     def test_comments_tabs_and_line_ends(self):
         text = CASE_A.replace(" ", "\t").replace("\n", "  # why\r\n") + "# end"

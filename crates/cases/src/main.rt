@@ -48,7 +48,7 @@ const CASE_A: [u32; 39] = [
 ];
 
 // Case B, as words.
-const CASE_B: [u32; 69] = [
+const CASE_B: [u32; 70] = [
     0,
     1,
     2,
@@ -86,6 +86,7 @@ const CASE_B: [u32; 69] = [
     1,
     352,
     0,
+    0,
     1,
     13,
     1,
@@ -109,15 +110,15 @@ const CASE_B: [u32; 69] = [
     2,
     128,
     1,
-    144,
+    148,
     1,
-    164,
+    168,
     1,
-    184,
+    188,
     0,
-    184,
+    188,
     0,
-    184,
+    188,
 ];
 
 // Changes to A, a row of four each: a word's place and its new value, twice; place 99 changes nothing. In the paper's order.
@@ -190,7 +191,7 @@ const B_CHANGES: [u32; 12] = [
     0,
     99,
     0, // B: 0 0 0
-    38,
+    39,
     12,
     99,
     0, // E = 12: 21 7 0
@@ -271,7 +272,7 @@ fn change_b(image: &mut [u8], k: usize)
     let second = B_CHANGES[at + 2];
     let other = B_CHANGES[at + 3];
     let mut i: usize = 0;
-    while i < 69 {
+    while i < 70 {
         put(
             image,
             i,
@@ -292,7 +293,7 @@ fn run_a(k: usize)
 fn run_b(k: usize)
     requires { ⌜ k < 3 ⌝ }
 {
-    let mut image = [0u8; 276];
+    let mut image = [0u8; 280];
     change_b(&mut image, k);
     print_answer(&image);
 }

@@ -145,8 +145,8 @@ module _ (s ws row : List ℕ) (c : ℕ) (first : ℕ → ℕ) (g : Loaded s ws 
 
 -- rd_build, rd_start, rd_step and rd_step_all, as the load tool calls them, are a run of which demand 3 holds
 pub demand-3-through-c : Demand3ThroughC
-demand-3-through-c s ws row c first g ahead near calls h =
-    let r = demand-3 s (wordsOf ws) (startsAt first c (lanes s)) c (ready s ws row c first g) ahead near calls h in
+demand-3-through-c s ws row c first g ahead near delay bounds calls h =
+    let r = demand-3 s (wordsOf ws) (startsAt first c (lanes s)) c (ready s ws row c first g) ahead near delay bounds calls h in
     record {
       holds = r;
       rows = rows-are s ws row c first g calls h;

@@ -9,7 +9,7 @@ use lib.Dec.{ltb}
 use Rattle.plan.specs.Image.{cycleTicks, precision}
 use Rattle.plan.specs.Dispatch.{lanes, shownAt, startsAt, dispatch}
 use Rattle.plan.specs.Boundary.{wordsOf, bytesOf, answerNumber, checkNumber}
-use Rattle.plan.specs.Runs.{Call, allLanes, oneLane, steps, after, atEnd, Kept, seen, movedBy}
+use Rattle.plan.specs.Runs.{Call, allLanes, oneLane, steps, after, atEnd, InBounds, Kept, seen, movedBy}
 use Rattle.plan.specs.Cases.{bytes, caseB}
 use Rattle.writing.specs.AllTables.{allTables, allBytes}
 use Rattle.loading.specs.Loaded.{AreBytes, shownBytes, rowBytes, givesBytes, afterBytes, firstIn, startedRow, builtWords, EveryRun}
@@ -58,13 +58,24 @@ unfolding dispatch bytes caseB ahead
 near zero = omega arith
 near (suc n) = omega arith
 
+-- and the cable slow in the first of them, fast then
+delay : ℕ → ℕ → ℕ
+delay f zero = 1
+delay f (suc y) = 0
+
+bounds : InBounds (bytes caseB) delay
+unfolding dispatch bytes caseB delay
+bounds zero zero h = (omega arith, omega arith)
+bounds zero (suc y) h = (omega arith, omega arith)
+bounds (suc f) y h = absurd (omega arith)
+
 abbrev ws : List ℕ
 ws = allBytes (bytes caseB) words
 
 -- all that demand 3 says of a run holds of both cycles
-kept : Kept (bytes caseB) 5 ahead (seen (wordsOf ws) (startsAt first 5 3) (replicate 40 allLanes)) 40
+kept : Kept (bytes caseB) 5 ahead (seen (wordsOf ws) (startsAt first 5 3) (replicate 40 allLanes)) delay 40
 unfolding dispatch bytes caseB
-kept = runs 5 (omega arith) ahead near (replicate 40 allLanes) tt .holds .kept-all 40 refl
+kept = runs 5 (omega arith) ahead near delay bounds (replicate 40 allLanes) tt .holds .kept-all 40 refl
 
 -- the row's bytes after the first 41 of 42 calls, and the number of the last of them
 lane-1-alone : List Call
@@ -76,15 +87,15 @@ named = (omega arith, tt)
 
 part : afterBytes ws (row 5) lane-1-alone ≡ rowBytes (after (wordsOf ws) (startsAt first 5 (lanes (bytes caseB))) lane-1-alone)
 unfolding lane-1-alone
-part = runs 5 (omega arith) ahead near (replicate 40 allLanes ++ oneLane 1 ∷ allLanes ∷ []) named .rows (replicate 40 allLanes ++ oneLane 1 ∷ []) (allLanes ∷ []) refl
+part = runs 5 (omega arith) ahead near delay bounds (replicate 40 allLanes ++ oneLane 1 ∷ allLanes ∷ []) named .rows (replicate 40 allLanes ++ oneLane 1 ∷ []) (allLanes ∷ []) refl
 
 alone : givesBytes ws (afterBytes ws (row 5) (replicate 40 allLanes)) (oneLane 1)
     ≡ cond (atEnd (bytes caseB) (wordsOf ws) (startsAt first 5 (lanes (bytes caseB))) 5 (replicate 40 allLanes) (oneLane 1)) 28 0
-alone = runs 5 (omega arith) ahead near (replicate 40 allLanes ++ oneLane 1 ∷ allLanes ∷ []) named .number (replicate 40 allLanes) (oneLane 1) (allLanes ∷ []) refl
+alone = runs 5 (omega arith) ahead near delay bounds (replicate 40 allLanes ++ oneLane 1 ∷ allLanes ∷ []) named .number (replicate 40 allLanes) (oneLane 1) (allLanes ∷ []) refl
 
 next : givesBytes ws (afterBytes ws (row 5) (replicate 40 allLanes)) allLanes ≡ 0
 unfolding dispatch bytes caseB
-next = runs 5 (omega arith) ahead near (replicate 41 allLanes) tt .number-all 40 [] refl
+next = runs 5 (omega arith) ahead near delay bounds (replicate 41 allLanes) tt .number-all 40 [] refl
 
 in-calendar : _≡_ {A = ℕ} (cond (ltb (5 * cycleTicks (bytes caseB) + 10) (2 ^ 64 * cycleTicks (bytes caseB) - 1)) 0 28) 0
 unfolding dispatch bytes caseB
@@ -97,7 +108,7 @@ lane-1 = omega arith
 -- after the eleventh call lane 1's record shows the task switch of piece 1, in its bytes 20 to 27
 ten-moved : movedBy (bytes caseB) (wordsOf ws) (startsAt first 5 (lanes (bytes caseB))) 5 (replicate 10 allLanes) 1 ≡ 10
 unfolding dispatch bytes caseB
-ten-moved = let e = runs 5 (omega arith) ahead near (replicate 10 allLanes) tt .holds .moved-all 10 refl 1 (omega arith) in omega (arith, e)
+ten-moved = let e = runs 5 (omega arith) ahead near delay bounds (replicate 10 allLanes) tt .holds .moved-all 10 refl 1 (omega arith) in omega (arith, e)
 
 switches : shownBytes (shownAt (bytes caseB) 1 (10 % cycleTicks (bytes caseB))) ≡ 3 ∷ 0 ∷ 0 ∷ 0 ∷ 1 ∷ 0 ∷ 0 ∷ 0 ∷ []
 unfolding dispatch bytes caseB bytesOf
@@ -106,7 +117,7 @@ switches = refl
 eleventh : take 8 (drop (28 * 1 + 20) (afterBytes ws (row 5) (replicate 11 allLanes))) ≡ 3 ∷ 0 ∷ 0 ∷ 0 ∷ 1 ∷ 0 ∷ 0 ∷ 0 ∷ []
 unfolding steps
 eleventh =
-    let r = runs 5 (omega arith) ahead near (replicate 41 allLanes) tt in
+    let r = runs 5 (omega arith) ahead near delay bounds (replicate 41 allLanes) tt in
     r .shown (replicate 10 allLanes) allLanes (replicate 30 allLanes) refl (r .number-all 10 (replicate 30 allLanes) refl ∙ in-calendar) 1 lane-1 refl
     ∙ ap (λ (n : ℕ). shownBytes (shownAt (bytes caseB) 1 (n % cycleTicks (bytes caseB)))) ten-moved
     ∙ switches
@@ -128,4 +139,4 @@ any-build =
 -- in the calendar's last cycle the twentieth call of all lanes is refused with 28
 last : givesBytes ws (afterBytes ws (row (2 ^ 64 - 1)) (replicate 19 allLanes)) allLanes ≡ 28
 unfolding dispatch bytes caseB
-last = runs (2 ^ 64 - 1) (omega arith) ahead near (replicate 20 allLanes) tt .number-all 19 [] refl
+last = runs (2 ^ 64 - 1) (omega arith) ahead near delay bounds (replicate 20 allLanes) tt .number-all 19 [] refl

@@ -9,7 +9,7 @@ use lib.Dec.{ltb}
 use Rattle.plan.specs.Image.{cycleTicks, precision}
 use Rattle.plan.specs.Dispatch.{Shown, lanes, shownAt, tableOf, startState, startsAt}
 use Rattle.plan.specs.Boundary.{wordsOf, bytesOf, stateBytes, checkNumber, buildNumber, buildBytes, startNumber, startBytes, stepNumber, stepBytes, stepAllNumber, stepAllBytes}
-use Rattle.plan.specs.Runs.{Call, allLanes, oneLane, steps, after, movedBy, atEnd, Named, RunHolds}
+use Rattle.plan.specs.Runs.{Call, allLanes, oneLane, steps, after, movedBy, atEnd, InBounds, Named, RunHolds}
 use Rattle.plan.specs.declared.LaneState.{LaneState}
 use Rattle.writing.specs.AllTables.{allTables, allNumber, allBytes}
 
@@ -51,8 +51,8 @@ module _ (ws : List ℕ) where
 -- Calls through C are a run of the lanes' starts: demand 3 holds of it; after every part of the list the row's bytes are those of the
 -- states that the run has then; each call gives what demand 3 says; and one that gives 0 leaves in bytes 20 to 27 of each record that it
 -- steps the kind and row that the plan has at the tick that the lane leaves.
-pub record BytesRun (s ws row : List ℕ) (c : ℕ) (first ahead : ℕ → ℕ) (calls : List Call) : Type 0 where
-  pub holds : RunHolds s (wordsOf ws) (startsAt first c (lanes s)) c ahead calls
+pub record BytesRun (s ws row : List ℕ) (c : ℕ) (first ahead : ℕ → ℕ) (delay : ℕ → ℕ → ℕ) (calls : List Call) : Type 0 where
+  pub holds : RunHolds s (wordsOf ws) (startsAt first c (lanes s)) c ahead delay calls
   pub rows : (earlier later : List Call) → calls ≡ earlier ++ later
       → afterBytes ws row earlier ≡ rowBytes (after (wordsOf ws) (startsAt first c (lanes s)) earlier)
   pub number : (earlier : List Call) (call : Call) (later : List Call) → calls ≡ earlier ++ call ∷ later
@@ -66,7 +66,8 @@ pub record BytesRun (s ws row : List ℕ) (c : ℕ) (first ahead : ℕ → ℕ) 
 
 abbrev pub EveryRun : (s ws row : List ℕ) (c : ℕ) (first : ℕ → ℕ) → Type 0
 EveryRun s ws row c first =
-    (ahead : ℕ → ℕ) → ((n : ℕ) → ahead n ≤ precision s) → (calls : List Call) → Named s calls → BytesRun s ws row c first ahead calls
+    (ahead : ℕ → ℕ) → ((n : ℕ) → ahead n ≤ precision s) → (delay : ℕ → ℕ → ℕ) → InBounds s delay → (calls : List Call) → Named s calls
+    → BytesRun s ws row c first ahead delay calls
 
 -- proved in proofs/Loads.antt
 abbrev pub Demand3ThroughC : Type 0

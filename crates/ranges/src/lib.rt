@@ -52,6 +52,7 @@ fn link_range(image: &[u8], row: u32) -> bool
         & (link.delay <= 1000000)
         & (1 <= link.rate)
         & (link.rate <= 10000)
+        & (link.lowest <= link.delay)
 }
 
 // 6, of a stream.

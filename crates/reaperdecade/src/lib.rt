@@ -4,6 +4,7 @@ ghost use mathlib.Core.Path.{_≡_};
 ghost use Prim.Native.Nat.{_+_, _*_, _^_};
 ghost use Rattle.plan.specs.Boundary.{checkNumber, buildNumber, buildBytes, startNumber, startBytes, stepNumber, stepBytes, stepAllNumber, stepAllBytes};
 ghost use Rattle.writing.specs.AllTables.{allNumber, allBytes};
+ghost use Rattle.arrivals.specs.Arrivals.{arrivalNumber, arrivalBytes};
 ghost use Rattle.drafts.specs.Edits.{pieceOf, makeNumber, makeWords, addNumber, addWords, removeNumber, removeWords, moveNumber, moveWords, jobNumber, jobValue, coreNumber, coreValue, placeNumber, placeLeaves};
 use packing::packed;
 use plan::LaneState;
@@ -83,6 +84,15 @@ pub extern "C" fn rd_build_all(image: &[u8], words: &mut [u8]) -> u64
     ensures { λ r. ⌜ (r ≡ allNumber (now (image .entry)) (now (words .entry))) × (now (words .exit) ≡ allBytes (now (image .entry)) (now (words .entry))) ⌝ }
 {
     packed(storing::build_all(image, words))
+}
+
+// Gives a frame's arrivals by its sending node's clock: asks the check's questions, then 5 of the row and 26, and writes two words, the
+// earliest and the latest tick. Later bytes, and all bytes after a refusal, stay as they are.
+#[no_mangle]
+pub extern "C" fn rd_arrivals(image: &[u8], frame: u32, ticks: &mut [u8]) -> u64
+    ensures { λ r. ⌜ (r ≡ arrivalNumber (now (image .entry)) frame (now (ticks .entry))) × (now (ticks .exit) ≡ arrivalBytes (now (image .entry)) frame (now (ticks .entry))) ⌝ }
+{
+    packed(arriving::store(image, frame, ticks))
 }
 
 // Makes a draft of an image in lent words: 1 to 5, 32, 6 to 10, then 34. Gives 0, or the number of a refusal, which changes no word; no word

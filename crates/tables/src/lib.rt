@@ -270,6 +270,7 @@ pub fn link_at(image: &[u8], row: u32) -> Link
         to: field_of(image, Table::Links, row, 1),
         delay: field_of(image, Table::Links, row, 2),
         rate: field_of(image, Table::Links, row, 3),
+        lowest: field_of(image, Table::Links, row, 4),
     }
 }
 

@@ -19,7 +19,7 @@ use Rattle.words.proofs.Words.{words-length}
 use Rattle.writing.proofs.Storing.{stored-one, stored-after, stored-before, stored-front}
 
 -- two words, and the three of an entry
-two-stored : (b : List ℕ) (i x y : ℕ) → sets (sets b i (bytesOf 4 x)) (i + 4) (bytesOf 4 y) ≡ stored b i (x ∷ y ∷ [])
+pub two-stored : (b : List ℕ) (i x y : ℕ) → sets (sets b i (bytesOf 4 x)) (i + 4) (bytesOf 4 y) ≡ stored b i (x ∷ y ∷ [])
 two-stored b i x y =
     stored-one (sets b i (bytesOf 4 x)) (i + 4) y ∙ ap (λ (v : List ℕ). stored v (i + 4) (y ∷ [])) (stored-one b i x) ∙ stored-after b i (i + 4) (x ∷ []) (y ∷ []) (omega arith)
 

@@ -76,6 +76,20 @@ pub unsafe extern "C" fn rd_step_all(
     Peer.step_all(words, from_raw_parts_mut(states, states_len))
 }
 
+/// # Safety
+/// The pointers lead to so many bytes, apart from each other.
+#[no_mangle]
+pub unsafe extern "C" fn rd_arrivals(
+    image: *const u8,
+    image_len: usize,
+    frame: u32,
+    ticks: *mut u8,
+    ticks_len: usize,
+) -> u64 {
+    let image = from_raw_parts(image, image_len);
+    Peer.arrivals(image, frame, from_raw_parts_mut(ticks, ticks_len))
+}
+
 /// The drafts, wrong in the way that RD_DRAFT_FAULT names, if it is set.
 fn drafts() -> Standin {
     let named = std::env::var("RD_DRAFT_FAULT").ok();

@@ -41,11 +41,13 @@ mod ops {
             }
         }
 
-        /// All that can be measured: of a refused image, the check alone.
+        /// All that can be measured: of a refused image, the check and arrivals alone.
         pub fn all(&self) -> Vec<Op<'_>> {
             let mut ops = vec![
                 self.op("ours", "check", || self.check(&Library)),
                 self.op("peer", "check", || self.check(&Peer)),
+                self.op("ours", "arrivals of frame 0", || self.arrivals(&Library)),
+                self.op("peer", "arrivals of frame 0", || self.arrivals(&Peer)),
             ];
             if !self.tables.is_empty() {
                 ops.push(self.op("ours", "build of each lane", || self.build(&Library)));
@@ -70,6 +72,10 @@ mod ops {
 
         fn check(&self, of: &dyn Boundary) {
             of.check(&self.image);
+        }
+
+        fn arrivals(&self, of: &dyn Boundary) {
+            of.arrivals(&self.image, 0, &mut [0; 8]);
         }
 
         /// Builds every lane with words that just suffice.

@@ -40,7 +40,7 @@ fn print_summary(summary: Summary) {
         plans, runs, calls, ..
     } = summary;
     println!("plans: {plans}, runs: {runs}, calls: {calls}");
-    println!("  at ends  at all cuts and clocks");
+    println!("  at ends  at all cuts and choices");
     for (fact, name) in FACTS {
         let (at_end, all) = (summary.at_end.of(fact), summary.tally.of(fact));
         println!("{at_end:9} {all:11}  {name}");

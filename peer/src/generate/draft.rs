@@ -3,7 +3,7 @@
 use super::chains::lay_chains;
 use super::timeline::Timeline;
 use super::windows::lay_windows;
-use crate::image::{row_of, Plan, ROW_BOUNDS};
+use crate::image::{row_of, Link, Plan, ROW_BOUNDS};
 use crate::rng::Rng;
 
 /// The longest latency a stream can ask for.
@@ -106,8 +106,8 @@ impl Draft {
         self.plan.vcpus.push(row_of([core]));
     }
 
-    pub fn add_link(&mut self, from: u32, to: u32, delay: u32, rate: u32) {
-        self.plan.links.push(row_of([from, to, delay, rate]));
+    pub fn add_link(&mut self, ends: [u32; 2], delay: u32, rate: u32, rng: &mut Rng) {
+        self.plan.links.push(any_link(ends, delay, rate, rng));
         self.link_lines.push(Timeline::default());
     }
 
@@ -443,6 +443,13 @@ fn split(sum: u32, count: u32, rng: &mut Rng) -> Vec<u32> {
     parts[0] += rest;
     rng.shuffle(&mut parts);
     parts
+}
+
+/// A link of these words; its lowest delay is none, the delay, or between.
+pub fn any_link([from, to]: [u32; 2], delay: u32, rate: u32, rng: &mut Rng) -> Link {
+    let any = rng.within(0..=delay);
+    let lowest = rng.pick(&[0, any, delay.saturating_sub(1), delay]);
+    row_of([from, to, delay, rate, lowest])
 }
 
 /// Gives masks to the tasks, shuffles the rows of most plans and puts in order

@@ -1,6 +1,6 @@
 //! Plans whose lanes, or one of whose lanes, have as many entries as can be.
 
-use super::draft::shuffled;
+use super::draft::{any_link, shuffled};
 use crate::image::{row_of, Plan, ROW_BOUNDS, WINDOW};
 use crate::rng::Rng;
 
@@ -68,9 +68,9 @@ fn add_window(plan: &mut Plan, core: u32, from: u32, rng: &mut Rng) {
 /// 64 streams of eight hops over 64 links, hop after hop.
 fn add_messages(plan: &mut Plan, from: u32, rng: &mut Rng) {
     for link in 0..64 {
-        let [start, end] = [link % NODES, (link + 1) % NODES];
+        let ends = [link % NODES, (link + 1) % NODES];
         let [delay, rate] = [rng.within(0..=100), rng.within(100..=10_000)];
-        plan.links.push(row_of([start, end, delay, rate]));
+        plan.links.push(any_link(ends, delay, rate, rng));
     }
     for stream in 0..64 {
         let [sender, receiver] = [0, CORES].map(|first| first + rng.within(0..=CORES - 1));

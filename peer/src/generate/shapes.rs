@@ -162,9 +162,9 @@ pub fn bare(rng: &mut Rng) -> Plan {
         draft.add_core(node, d, v);
     }
     for _ in 0..rng.within(0..=2) {
-        let [from, to] = [rng.within(0..=7), rng.within(8..=15)];
+        let ends = [rng.within(0..=7), rng.within(8..=15)];
         let [delay, rate] = [rng.within(0..=1_000_000), rng.within(1..=10_000)];
-        draft.add_link(from, to, delay, rate);
+        draft.add_link(ends, delay, rate, rng);
     }
     let plan = draft.finish(rng);
     plan.expect("no windows are needed")
@@ -389,7 +389,7 @@ fn try_full(rng: &mut Rng) -> Option<Plan> {
         let from = link % nodes;
         let to = (from + 1 + link / nodes % (nodes - 1)) % nodes;
         let rate = any_rate(unit / 800, rng);
-        draft.add_link(from, to, rng.within(0..=unit / 200), rate);
+        draft.add_link([from, to], rng.within(0..=unit / 200), rate, rng);
     }
     for _ in 0..64 {
         let fits = (0..20).any(|_| {
@@ -507,9 +507,9 @@ fn add_links(draft: &mut Draft, size: &Size, least: u32, nodes: &mut [u32], rng:
             Some(&[from, to, ..]) if rng.chance(30) => [to, from],
             _ => [nodes[0], nodes[1]],
         };
-        let most_delay = (draft.plan.cycle / 40).max(2);
+        let most_delay = (draft.plan.cycle / 40).max(3);
         let [delay, rate] = [few(most_delay, rng), any_rate(draft.plan.cycle / 24, rng)];
-        draft.add_link(ends[0], ends[1], delay, rate);
+        draft.add_link(ends, delay, rate, rng);
     }
 }
 
@@ -737,7 +737,8 @@ fn try_diamond(rng: &mut Rng) -> Option<Plan> {
     }
     for from in 0..nodes {
         for to in (0..nodes).filter(|to| *to != from) {
-            draft.add_link(from, to, rng.within(0..=2), rng.within(352..=10_000));
+            let [delay, rate] = [rng.within(0..=2), rng.within(352..=10_000)];
+            draft.add_link([from, to], delay, rate, rng);
         }
     }
     let period = cycle / rng.pick(&[1, 1, 2]);

@@ -5,7 +5,7 @@ use super::pair::{Difference, Pair};
 use crate::boundary::{write_state, write_words, STATE};
 use crate::dispatch::{start, State};
 use crate::generate;
-use crate::image::{point_back, TRAILER, WORD};
+use crate::image::{point_back, Trailer, FRAME, TRAILER, WORD};
 use crate::mutate::{aim, mutant, mutate};
 use crate::rng::Rng;
 use crate::table::tables;
@@ -33,9 +33,11 @@ pub fn run(case: u64, large: bool, pair: &mut Pair, rng: &mut Rng) -> Result<Out
     if number == 0 {
         let tables = tables(&image).expect("our own check accepts");
         build_all(pair, lent.part(), &tables, rng)?;
+        ask_arrivals(pair, lent.part(), rng)?;
         Run::new(pair, &tables, rng)?.run(pair, rng)?;
     } else {
         build_refused(pair, lent.part(), rng)?;
+        ask_arrivals_refused(pair, lent.part(), rng)?;
     }
     if lent != before {
         return Err(Difference::of_image(&image, lent.part()));
@@ -149,6 +151,35 @@ fn build_refused(pair: &mut Pair, image: &[u8], rng: &mut Rng) -> Called {
     }
     let length = rng.below(800);
     pair.build_all(image, &mut Lent::noise(length, rng))?;
+    Ok(())
+}
+
+/// Asks when frames arrive, the first, the last and any, with bytes for too few
+/// words, just enough and too many; then of frames that there are not, next to
+/// the last and far away, also where the lower bits are those of one that is.
+fn ask_arrivals(pair: &mut Pair, image: &[u8], rng: &mut Rng) -> Called {
+    let (_, frames) = Trailer::read(image).tables[FRAME as usize - 1];
+    let last = frames.saturating_sub(1);
+    let any = rng.within(0..=last);
+    for frame in [0, any, last] {
+        for length in around(2, rng) {
+            pair.arrivals(image, frame, &mut Lent::noise(length, rng))?;
+        }
+    }
+    let far = any | 1 << rng.within(16..=31);
+    for frame in [frames, frames + rng.within(1..=9), far, u32::MAX] {
+        let lengths = around(2, rng);
+        let length = rng.pick(&lengths);
+        pair.arrivals(image, frame, &mut Lent::noise(length, rng))?;
+    }
+    Ok(())
+}
+
+fn ask_arrivals_refused(pair: &mut Pair, image: &[u8], rng: &mut Rng) -> Called {
+    for frame in [0, rng.within(0..=40), rng.word()] {
+        let length = rng.below(20);
+        pair.arrivals(image, frame, &mut Lent::noise(length, rng))?;
+    }
     Ok(())
 }
 

@@ -13,11 +13,13 @@ pub struct Calls {
     pub start: u64,
     pub step: u64,
     pub step_all: u64,
+    pub arrivals: u64,
 }
 
 impl Calls {
     pub fn total(&self) -> u64 {
-        self.check + self.build + self.start + self.step + self.step_all
+        let on_images = self.check + self.build + self.arrivals;
+        on_images + self.start + self.step + self.step_all
     }
 }
 
@@ -85,45 +87,51 @@ impl<'a> Pair<'a> {
         })
     }
 
-    /// Builds into lent bytes, which then hold what both wrote.
     pub fn build(&mut self, image: &[u8], lane: u32, words: &mut Lent) -> Result<u64, Difference> {
         self.calls.build += 1;
-        let before = words.clone();
-        let mut other = words.clone();
-        let ours = self.ours.build(image, lane, words.part_mut());
-        let theirs = self.theirs.build(image, lane, other.part_mut());
-        if (ours, &*words) == (theirs, &other) {
-            return Ok(ours);
-        }
-        let length = before.part().len();
-        Err(Difference {
-            case: 0,
-            call: format!(
-                "build of lane {lane} into {length} bytes, image {}",
-                hex(image)
-            ),
-            ours: outcome(&answer(ours), words),
-            theirs: outcome(&answer(theirs), &other),
+        let what = format_args!("build of lane {lane}");
+        self.call_on(image, words, what, |of, words| of.build(image, lane, words))
+    }
+
+    pub fn build_all(&mut self, image: &[u8], words: &mut Lent) -> Result<u64, Difference> {
+        self.calls.build += 1;
+        let what = format_args!("build of all lanes");
+        self.call_on(image, words, what, |of, words| of.build_all(image, words))
+    }
+
+    pub fn arrivals(
+        &mut self,
+        image: &[u8],
+        frame: u32,
+        ticks: &mut Lent,
+    ) -> Result<u64, Difference> {
+        self.calls.arrivals += 1;
+        let what = format_args!("arrivals of frame {frame}");
+        self.call_on(image, ticks, what, |of, ticks| {
+            of.arrivals(image, frame, ticks)
         })
     }
 
-    /// Builds all lanes into lent bytes, which then hold what both wrote.
-    pub fn build_all(&mut self, image: &[u8], words: &mut Lent) -> Result<u64, Difference> {
-        self.calls.build += 1;
-        let mut other = words.clone();
-        let ours = self.ours.build_all(image, words.part_mut());
-        let theirs = self.theirs.build_all(image, other.part_mut());
-        if (ours, &*words) == (theirs, &other) {
+    /// A call on an image that writes to lent bytes, which then hold what both
+    /// wrote.
+    fn call_on(
+        &self,
+        image: &[u8],
+        lent: &mut Lent,
+        what: fmt::Arguments,
+        call: impl Fn(&dyn Boundary, &mut [u8]) -> u64,
+    ) -> Result<u64, Difference> {
+        let mut other = lent.clone();
+        let ours = call(self.ours, lent.part_mut());
+        let theirs = call(self.theirs, other.part_mut());
+        if (ours, &*lent) == (theirs, &other) {
             return Ok(ours);
         }
-        let length = words.part().len();
+        let length = lent.part().len();
         Err(Difference {
             case: 0,
-            call: format!(
-                "build of all lanes into {length} bytes, image {}",
-                hex(image)
-            ),
-            ours: outcome(&answer(ours), words),
+            call: format!("{what} into {length} bytes, image {}", hex(image)),
+            ours: outcome(&answer(ours), lent),
             theirs: outcome(&answer(theirs), &other),
         })
     }

@@ -122,7 +122,7 @@ fn layout(mut plan: Plan, rng: &mut Rng) -> Vec<u8> {
         }
         3 => widened(plan, rng),
         4 => many_tables(plan.encode(), rng),
-        5 => old_link_rows(plan.encode()),
+        5 => old_link_rows(plan.encode(), rng.pick(&[3, 4, 4])),
         _ => one_count(plan.encode(), rng),
     }
 }
@@ -177,16 +177,18 @@ fn many_tables(mut image: Vec<u8>, rng: &mut Rng) -> Vec<u8> {
     image
 }
 
-/// Link rows of three words, as they once were, and all else in its place.
-fn old_link_rows(mut image: Vec<u8>) -> Vec<u8> {
+/// Link rows of only so many words, as they once were, and all else in its
+/// place.
+fn old_link_rows(mut image: Vec<u8>, words: usize) -> Vec<u8> {
     let (begin, rows) = Trailer::read(&image).tables[LINK as usize - 1];
+    let gone = (width(LINK) - words) * WORD;
     for row in (0..rows as usize).rev() {
-        let rate = begin as usize + (row * width(LINK) + 3) * WORD;
-        image.drain(rate..rate + WORD);
+        let end = begin as usize + (row + 1) * width(LINK) * WORD;
+        image.drain(end - gone..end);
     }
     for table in LINK as usize..TABLES {
         let at = offset_byte(&image, table);
-        let offset = word_at(&image, at) - rows * WORD as u32;
+        let offset = word_at(&image, at) - rows * gone as u32;
         set_word(&mut image, at, offset);
     }
     point_back(&mut image);

@@ -38,11 +38,11 @@ pub fn row_number(plan: &mut Plan, rng: &mut Rng) -> Option<()> {
 }
 
 pub fn range(plan: &mut Plan, rng: &mut Rng) -> Option<()> {
-    match rng.below(5) {
+    match rng.below(6) {
         0 => core_range(plan, rng),
         1 => task_range(plan, rng),
-        2 => link_range(plan, rng),
-        3 => stream_range(plan, rng),
+        2 | 3 => link_range(plan, rng),
+        4 => stream_range(plan, rng),
         _ => buffer_range(plan, rng),
     }
 }
@@ -76,13 +76,16 @@ fn task_range(plan: &mut Plan, rng: &mut Rng) -> Option<()> {
 
 fn link_range(plan: &mut Plan, rng: &mut Rng) -> Option<()> {
     let row = any_row(&plan.links, rng)?;
-    let from = plan.links[row][0];
-    let (column, value) = match rng.below(6) {
+    let [from, _, delay, _, lowest, ..] = plan.links[row];
+    let above = delay.wrapping_add(1);
+    let (column, value) = match rng.below(9) {
         0 => (0, rng.pick(&[16, u32::MAX])),
         1 => (1, rng.pick(&[16, u32::MAX])),
         2 => (1, from),
         3 => (2, rng.pick(&[1_000_001, u32::MAX])),
-        _ => (3, rng.pick(&[0, 0, 10_001, 10_001, 1 << 31, u32::MAX])),
+        4 => (2, lowest.wrapping_sub(1)),
+        5 | 6 => (3, rng.pick(&[0, 0, 10_001, 10_001, 1 << 31, u32::MAX])),
+        _ => (4, rng.pick(&[above, above, above, 1_000_000, 1 << 31])),
     };
     plan.links[row][column] = value;
     Some(())

@@ -128,7 +128,7 @@ fn change(question: u32, plan: &mut Plan, rng: &mut Rng) -> Option<()> {
 
 /// Changes that most plans bear.
 fn harmless(plan: &mut Plan, rng: &mut Rng) {
-    match rng.below(9) {
+    match rng.below(10) {
         0 => plan.precision = plan.precision.saturating_sub(1),
         1 => plan.tasks.iter_mut().for_each(|task| task[4] = task[2]),
         2 => plan.tasks.iter_mut().for_each(|task| task[1] = u32::MAX),
@@ -136,10 +136,16 @@ fn harmless(plan: &mut Plan, rng: &mut Rng) {
         4 => rng.shuffle(&mut plan.buffers),
         5 => {
             let links = plan.links.iter_mut();
-            links.for_each(|row| row[2] = row[2].saturating_sub(1));
+            links.for_each(|row| row[2] = row[2].saturating_sub(1).max(row[4]));
         }
         6 => rng.shuffle(&mut plan.chains),
         7 => plan.chains.iter_mut().for_each(|row| row[2] = u32::MAX),
+        8 => {
+            for [_, _, delay, _, lowest, ..] in &mut plan.links {
+                let any = rng.within(0..=*delay);
+                *lowest = rng.pick(&[0, any, *delay]);
+            }
+        }
         _ if plan.windows.len() < ROW_BOUNDS[WINDOW as usize - 1].1 as usize => {
             generate::cut_window(plan, rng);
         }

@@ -154,7 +154,7 @@ pub fn frame_count(plan: &mut Plan, rng: &mut Rng) -> Option<()> {
 pub fn route(plan: &mut Plan, rng: &mut Rng) -> Option<()> {
     let row = any_row(&plan.frames, rng)?;
     let [stream, _, _, link, ..] = plan.frames[row];
-    let [from, to, delay, rate, ..] = plan.links[link as usize];
+    let [from, to, ..] = plan.links[link as usize];
     match rng.below(6) {
         0 => {
             let differs = |other: usize| plan.links[other][..2] != plan.links[link as usize][..2];
@@ -175,8 +175,12 @@ pub fn route(plan: &mut Plan, rng: &mut Rng) -> Option<()> {
             Some(())
         }
         // A detour that leaves all other hops as they are.
-        4 => move_to_new_link(plan, row, [other_node(from, to), to, delay, rate]),
-        _ => move_to_new_link(plan, row, [from, other_node(from, to), delay, rate]),
+        detour => {
+            own_link(plan, row)?;
+            let end = usize::from(detour == 5);
+            plan.links.last_mut()?[end] = other_node(from, to);
+            Some(())
+        }
     }
 }
 
@@ -369,12 +373,8 @@ pub fn message_order(plan: &mut Plan, rng: &mut Rng) -> Option<()> {
 /// Moves a frame to a new link beside its own.
 fn own_link(plan: &mut Plan, frame: usize) -> Option<()> {
     let beside = plan.links[plan.frames[frame][3] as usize];
-    move_to_new_link(plan, frame, beside)
-}
-
-fn move_to_new_link<const N: usize>(plan: &mut Plan, frame: usize, words: [u32; N]) -> Option<()> {
     plan.frames[frame][3] = plan.links.len() as u32;
-    plan.links.push(row_of(words));
+    plan.links.push(beside);
     (plan.links.len() <= ROW_BOUNDS[LINK as usize - 1].1 as usize).then_some(())
 }
 

@@ -1,7 +1,8 @@
-//! The claims about jobs, messages, chains and holds, after some moves of all
-//! lanes.
+//! The claims about jobs, frames, messages, chains and holds, after some moves
+//! of all lanes.
 
-use super::clocks::{Clocks, TrueTime};
+use super::choices::Choice;
+use super::clocks::TrueTime;
 use super::reading::{JobId, Reading, Tick};
 use super::report::{Claim, Fact, Report, Violation};
 use crate::image::{Buffer, Frame, Plan, Window};
@@ -34,7 +35,7 @@ fn ask_job(plan: &Plan, reading: &Reading, id: JobId, report: &mut Report) {
     let failure = |claim: Claim, what: String| Violation {
         claim,
         after: reading.moves,
-        clocks: None,
+        choice: None,
         what: format!("{} {what}", name(id)),
     };
     report.ask(worked.len() == budget as usize, Fact::JobWhole, || {
@@ -88,10 +89,13 @@ fn name(id: JobId) -> String {
     format!("job {k} of task {task} in cycle c + {cycle}")
 }
 
-/// The messages and chains of a run under one choice of clocks.
+/// The frames, messages and chains of a run under one choice of clocks and
+/// delays.
 pub struct Messages<'a> {
     plan: &'a Plan,
-    clocks: &'a Clocks,
+    /// Each frame's earliest and latest arrival.
+    arrivals: &'a [[u32; 2]],
+    choice: &'a Choice,
     time: TrueTime,
 }
 
@@ -104,20 +108,71 @@ struct Message {
 }
 
 impl<'a> Messages<'a> {
-    pub fn new(plan: &'a Plan, cycle: u64, clocks: &'a Clocks) -> Messages<'a> {
+    pub fn new(
+        plan: &'a Plan,
+        arrivals: &'a [[u32; 2]],
+        cycle: u64,
+        choice: &'a Choice,
+    ) -> Messages<'a> {
         Messages {
             plan,
-            clocks,
-            time: TrueTime::new(plan, cycle, clocks),
+            arrivals,
+            choice,
+            time: TrueTime::new(plan, cycle, &choice.clocks),
         }
     }
 
-    /// Asks every claim about messages and chains.
+    /// Asks every claim about frames, messages and chains.
     pub fn ask(&self, reading: &Reading, report: &mut Report) {
+        for cycle in 0..reading.cycles() {
+            for frame in 0..self.plan.frames.len() {
+                self.ask_crossing(reading, cycle, frame, report);
+            }
+        }
         self.ask_messages(reading, report);
         for row in 0..self.plan.chains.len() {
             self.ask_chain(reading, row, report);
         }
+    }
+
+    /// A frame that is sent in a cycle arrives between its two arrivals there.
+    fn ask_crossing(&self, reading: &Reading, cycle: usize, frame: usize, report: &mut Report) {
+        let Some(arrival) = self.crossed(reading, cycle, frame) else {
+            return;
+        };
+        let lane = self.plan.cores.len() + self.plan.frames[frame][3] as usize;
+        let begin = cycle as i128 * i128::from(self.plan.cycle);
+        let read = self.time.read(lane, arrival) - begin;
+        let [earliest, latest] = self.arrivals[frame].map(i128::from);
+        let between = (earliest..=latest).contains(&read);
+        report.ask(between, Fact::FrameArrived, || Violation {
+            claim: Claim::Crossed,
+            after: reading.moves,
+            choice: Some(self.choice.clone()),
+            what: format!(
+                "frame {frame} arrives at {read} of cycle c + {cycle} by its sender's clock, \
+                 not from {earliest} to {latest}"
+            ),
+        });
+        for (fact, is_met) in [
+            (Fact::ArrivedEarliest, read == earliest),
+            (Fact::ArrivedBetween, earliest < read && read < latest),
+            (Fact::ArrivedLatest, read == latest),
+        ] {
+            if is_met {
+                report.tally.count(fact);
+            }
+        }
+    }
+
+    /// The true time at which a frame arrives, once it is sent in a cycle.
+    fn crossed(&self, reading: &Reading, cycle: usize, frame: usize) -> Option<i128> {
+        let [stream, _, _, link, ..] = self.plan.frames[frame];
+        let [_, _, _, _, payload, ..] = self.plan.streams[stream as usize];
+        let [_, _, _, rate, ..] = self.plan.links[link as usize];
+        let last = reading.sent(cycle, frame).get(last_tick(payload, rate))?;
+        let delay = self.choice.delays.of(cycle, frame);
+        Some(self.time.end(*last) + i128::from(delay))
     }
 
     fn ask_messages(&self, reading: &Reading, report: &mut Report) {
@@ -157,18 +212,16 @@ impl<'a> Messages<'a> {
 
     /// The true time at which a message arrives, if every frame counts.
     fn arrival(&self, reading: &Reading, message: Message) -> Option<i128> {
-        let [_, _, _, hops, payload, ..] = self.plan.streams[message.row];
+        let [_, _, _, hops, ..] = self.plan.streams[message.row];
         let JobId { cycle, k, .. } = message.sender;
         let mut ready = self.time.end(reading.end(message.sender)?);
         for hop in 0..hops {
             let frame = self.frame(message.row, k, hop)?;
-            let sent = reading.sent(cycle, frame);
-            if self.time.begin(*sent.first()?) < ready {
+            let first = reading.sent(cycle, frame).first()?;
+            if self.time.begin(*first) < ready {
                 return None;
             }
-            let [_, _, delay, rate, ..] = self.plan.links[self.plan.frames[frame][3] as usize];
-            let last = sent.get(last_tick(payload, rate))?;
-            ready = self.time.end(*last) + i128::from(delay);
+            ready = self.crossed(reading, cycle, frame)?;
         }
         Some(ready)
     }
@@ -234,7 +287,7 @@ impl<'a> Messages<'a> {
                 Violation {
                     claim: Claim::Chain,
                     after: reading.moves,
-                    clocks: Some(self.clocks.to_string()),
+                    choice: Some(self.choice.clone()),
                     what: format!("chain {row}: {last} ends at true time {end}, {times}"),
                 }
             });
@@ -258,7 +311,7 @@ impl<'a> Messages<'a> {
         Violation {
             claim,
             after: reading.moves,
-            clocks: Some(self.clocks.to_string()),
+            choice: Some(self.choice.clone()),
             what: format!("stream {}: {receiver} {what}", message.row),
         }
     }
@@ -316,7 +369,7 @@ fn ask_hold(
     let alone = report.ask(intruder.is_none(), fact, || Violation {
         claim: Claim::Hold,
         after: reading.moves,
-        clocks: None,
+        choice: None,
         what: format!(
             "buffer row {row}: held in moves {hold:?}, {}",
             intruder.unwrap_or_default()

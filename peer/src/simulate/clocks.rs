@@ -106,4 +106,9 @@ impl TrueTime {
     pub fn end(&self, tick: Tick) -> i128 {
         self.begin(tick) + 1
     }
+
+    /// What the clock of a lane's node reads at a true time, less c×H.
+    pub fn read(&self, lane: usize, time: i128) -> i128 {
+        time + self.ahead[lane] - self.begin
+    }
 }

@@ -3,7 +3,7 @@
 use std::fmt;
 
 use super::{all_lanes, choices, examine, mixed, rows};
-use super::{Call, Clocks, Report, Run, Tables, Tally};
+use super::{Call, Choice, Report, Run, Tables, Tally};
 use crate::boundary::Boundary;
 use crate::generate;
 use crate::image::Plan;
@@ -33,9 +33,9 @@ pub struct Summary {
     pub plans: u64,
     pub runs: u64,
     pub calls: u64,
-    /// What was met at all cuts and under all choices of clocks.
+    /// What was met at all cuts and under all choices.
     pub tally: Tally,
-    /// What was met at the ends of the runs, under one choice of clocks.
+    /// What was met at the ends of the runs, under one choice.
     pub at_end: Tally,
 }
 
@@ -99,7 +99,7 @@ fn lists(plan: &Plan, rng: &mut Rng) -> Vec<(u64, Vec<Call>)> {
 pub struct Case<'a> {
     number: u64,
     pub plan: &'a Plan,
-    pub choices: Vec<Clocks>,
+    pub choices: Vec<Choice>,
 }
 
 impl Case<'_> {

@@ -3,11 +3,13 @@
 //!
 //! Starts, ends, work and arrivals are read off what is shown, after every
 //! call that leaves all lanes equally often moved, under many choices of how
-//! far each node's clock is ahead. The claims never see the times of the
-//! plan's piece and frame rows.
+//! far each node's clock is ahead and of how long each crossing takes. The
+//! claims never see the times of the plan's piece and frame rows.
 
+mod choices;
 mod claims;
 mod clocks;
+mod delays;
 mod drive;
 mod edges;
 mod moves;
@@ -21,7 +23,9 @@ mod tables;
 use crate::boundary::Peer;
 use crate::image::Plan;
 
-pub use clocks::{choices, Clocks};
+pub use choices::{choices, Choice};
+pub use clocks::Clocks;
+pub use delays::Delays;
 pub use drive::{simulate, Failure, Settings, Summary};
 pub use edges::{edges, Dial, Edge};
 pub use report::{Claim, Fact, Report, Tally, Violation, FACTS};
@@ -33,13 +37,13 @@ pub use tables::Tables;
 use claims::{ask_holds, ask_jobs, without_times, Messages};
 use reading::Reading;
 
-/// Asks every claim of a run, at every cut, under each choice of clocks.
-pub fn examine(plan: &Plan, tables: &Tables, run: &Run, choices: &[Clocks]) -> Report {
+/// Asks every claim of a run, at every cut, under each choice.
+pub fn examine(plan: &Plan, tables: &Tables, run: &Run, choices: &[Choice]) -> Report {
     let mut report = Report::default();
     let moves = moves::follow(plan.cycle, tables, run, &mut report);
     let mut at_end = report.clone();
     let plan = &without_times(plan);
-    let messages = |clocks| Messages::new(plan, run.cycle, clocks);
+    let messages = |choice| Messages::new(plan, &tables.arrivals, run.cycle, choice);
     let messages: Vec<Messages> = choices.iter().map(messages).collect();
     for &cut in &moves.cuts {
         let reading = Reading::of(plan, &moves.shown, cut);
@@ -71,7 +75,7 @@ pub fn run_unchecked(plan: &Plan) -> (Tables, Run) {
 }
 
 /// Asks every claim of such a run.
-pub fn unchecked(plan: &Plan, choices: &[Clocks]) -> Report {
+pub fn unchecked(plan: &Plan, choices: &[Choice]) -> Report {
     let (tables, run) = run_unchecked(plan);
     examine(plan, &tables, &run, choices)
 }

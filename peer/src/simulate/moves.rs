@@ -150,7 +150,7 @@ impl Asked<'_> {
         Violation {
             claim,
             after: self.index,
-            clocks: None,
+            choice: None,
             what: format!("call {} ({call}): {what}", self.index),
         }
     }

@@ -3,6 +3,8 @@
 use std::collections::BTreeMap;
 use std::fmt;
 
+use super::choices::Choice;
+
 /// What the paper claims of runs.
 #[derive(Clone, Copy, Debug, PartialEq, Eq, PartialOrd, Ord)]
 pub enum Claim {
@@ -20,6 +22,9 @@ pub enum Claim {
     Due,
     /// It works in windows of its VCPU, after the ticks of their switch.
     Window,
+    /// A frame arrives from its earliest to its latest arrival of the cycle,
+    /// by the clock of the node that sent it.
+    Crossed,
     /// The receiver's job starts only where the message has arrived.
     Arrived,
     /// It ends at most E after the sender's job started.
@@ -37,8 +42,8 @@ pub struct Violation {
     /// How often every lane had moved; for a claim about a single call, how
     /// many calls had been made before.
     pub after: usize,
-    /// Ticks that each node's clock is ahead, where that matters.
-    pub clocks: Option<String>,
+    /// Clocks and delays, where they matter.
+    pub choice: Option<Choice>,
     pub what: String,
 }
 
@@ -48,10 +53,12 @@ impl fmt::Display for Violation {
             Claim::Number | Claim::Shows | Claim::Place => "calls",
             _ => "moves of every lane",
         };
-        let clocks = self.clocks.as_deref().unwrap_or("any");
         writeln!(out, "claim: {:?}, {}", self.claim, self.what)?;
         writeln!(out, "after: {} {unit}", self.after)?;
-        writeln!(out, "clocks: {clocks}")
+        match &self.choice {
+            None => writeln!(out, "clocks and delays: any"),
+            Some(choice) => write!(out, "{choice}"),
+        }
     }
 }
 
@@ -64,6 +71,10 @@ pub enum Fact {
     Kept,
     JobWhole,
     TickWorked,
+    FrameArrived,
+    ArrivedEarliest,
+    ArrivedBetween,
+    ArrivedLatest,
     ReceiverStarted,
     StartedAtArrival,
     ReceiverEnded,
@@ -77,13 +88,17 @@ pub enum Fact {
     HoldShared,
 }
 
-pub const FACTS: [(Fact, &str); 17] = [
+pub const FACTS: [(Fact, &str); 21] = [
     (Fact::GaveZero, "calls that gave 0"),
     (Fact::GaveEnd, "calls that gave 28"),
     (Fact::Shown, "moves that showed their table's entry"),
     (Fact::Kept, "records left as they were"),
     (Fact::JobWhole, "jobs of completed cycles with their budget"),
     (Fact::TickWorked, "ticks worked in them"),
+    (Fact::FrameArrived, "frames arrived between their bounds"),
+    (Fact::ArrivedEarliest, "  of these at the earliest tick"),
+    (Fact::ArrivedBetween, "  of these at neither end"),
+    (Fact::ArrivedLatest, "  of these at the latest tick"),
     (Fact::ReceiverStarted, "receivers started on their message"),
     (Fact::StartedAtArrival, "  of these at the very arrival"),
     (Fact::ReceiverEnded, "receivers ended within E"),
@@ -126,9 +141,9 @@ impl Tally {
 /// Everything found on a run.
 #[derive(Clone, Debug, Default)]
 pub struct Report {
-    /// After every cut and under every choice of clocks.
+    /// After every cut and under every choice of clocks and delays.
     pub tally: Tally,
-    /// After the last cut, under the last choice of clocks.
+    /// After the last cut, under the last choice.
     pub at_end: Tally,
     /// The first failure of each claim that failed.
     pub violations: BTreeMap<Claim, Violation>,

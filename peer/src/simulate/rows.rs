@@ -13,7 +13,7 @@ pub fn rows(plan: &Plan) -> String {
     write(&mut text, "task", "VCPU mask T C D", &plan.tasks);
     write(&mut text, "window", "VCPU start length", &plan.windows);
     write(&mut text, "piece", "task job start length", &plan.pieces);
-    write(&mut text, "link", "from to delay rate", &plan.links);
+    write(&mut text, "link", "from to delay rate lowest", &plan.links);
     let stream = "sender receiver E hops payload";
     write(&mut text, "stream", stream, &plan.streams);
     write(

@@ -1,7 +1,7 @@
 //! Broken plans, run without asking the check.
 
 use super::drive::Case;
-use super::{edges, run_unchecked, unchecked, Claim, Clocks, Edge, Failure, Settings};
+use super::{edges, run_unchecked, unchecked, Choice, Claim, Clocks, Edge, Failure, Settings};
 use crate::check::check;
 use crate::generate;
 use crate::image::{Buffer, Plan};
@@ -27,8 +27,7 @@ pub fn guarded(question: u32) -> Claim {
 #[derive(Clone, Copy, Debug, Default)]
 pub struct Noticed {
     pub broken: u64,
-    /// So many break the claim that their question guards, under some choice
-    /// of clocks.
+    /// So many break the claim that their question guards, under some choice.
     pub noticed: u64,
     /// Of these, so many with all clocks equal.
     pub with_equal_clocks: u64,
@@ -118,7 +117,7 @@ fn run_broken(case: &Case, question: u32, found: &mut Noticed) -> Result<(), Fai
     found.broken += 1;
     if unchecked(case.plan, &case.choices).has(guarded) {
         found.noticed += 1;
-        let equal = [Clocks::equal(case.plan)];
+        let equal = [Choice::of(case.plan, Clocks::equal(case.plan))];
         found.with_equal_clocks += u64::from(unchecked(case.plan, &equal).has(guarded));
     } else if question == 24 && only_shared_tasks(case.plan)
         || question == 31 && only_one_clock(case.plan)

@@ -1,7 +1,7 @@
-//! The dispatch tables of all lanes in one row of words.
+//! The dispatch tables of all lanes in one row of words, and when frames arrive.
 
 use crate::boundary::{read_words, write_words, Boundary};
-use crate::image::{Plan, WORD};
+use crate::image::{word_at, Plan, WORD};
 use crate::naive;
 
 /// The kind and row that a lane shows.
@@ -12,10 +12,13 @@ pub struct Tables {
     words: Vec<u32>,
     /// Where each lane's table begins.
     pub firsts: Vec<u32>,
+    /// Each frame's earliest and latest arrival.
+    pub arrivals: Vec<[u32; 2]>,
 }
 
 impl Tables {
-    /// The tables that an implementation builds, or its first refusal.
+    /// The tables that an implementation builds, with the arrivals that it
+    /// gives, or its first refusal.
     pub fn built(plan: &Plan, by: &dyn Boundary) -> Result<Tables, u64> {
         let image = plan.encode();
         let most_words = 2 + 3 * plan.cycle as usize;
@@ -27,28 +30,42 @@ impl Tables {
             }
         };
         let tables: Result<Vec<_>, u64> = (0..plan.lanes() as u32).map(build).collect();
-        Ok(Tables::of(&tables?))
+        let arrivals = |frame| {
+            let mut lent = [0; 2 * WORD];
+            match by.arrivals(&image, frame, &mut lent) {
+                0 => Ok([0, WORD].map(|byte| word_at(&lent, byte))),
+                refusal => Err(refusal),
+            }
+        };
+        let arrivals: Result<Vec<_>, u64> = (0..plan.frames.len() as u32).map(arrivals).collect();
+        Ok(Tables::of(&tables?, arrivals?))
     }
 
-    /// The tables of a plan that no question is asked of.
+    /// The tables and arrivals of a plan that no question is asked of.
     pub fn unasked(plan: &Plan) -> Tables {
         let image = plan.encode();
         let lanes = 0..plan.lanes() as u32;
         let tables: Vec<Vec<u32>> = lanes
             .map(|lane| naive::table_unasked(&image, lane))
             .collect();
-        Tables::of(&tables)
+        let frames = 0..plan.frames.len() as u32;
+        let arrivals = frames.map(|frame| naive::arrivals_unasked(&image, frame));
+        Tables::of(&tables, arrivals.collect())
     }
 
     /// These tables, one behind the other.
-    pub fn of(tables: &[Vec<u32>]) -> Tables {
+    fn of(tables: &[Vec<u32>], arrivals: Vec<[u32; 2]>) -> Tables {
         let mut words = Vec::new();
         let mut firsts = Vec::new();
         for table in tables {
             firsts.push(words.len() as u32);
             words.extend_from_slice(table);
         }
-        Tables { words, firsts }
+        Tables {
+            words,
+            firsts,
+            arrivals,
+        }
     }
 
     pub fn lanes(&self) -> usize {

@@ -41,42 +41,54 @@ def stream_lines(scene, stream):
     for message in scene.meaning.messages(stream):
         title = f"{name} job {message.job}"
         stops = [stop for stop in _stops(scene, message) if stop]
-        for (_, leaves, lane), (arrives, _, other) in zip(stops, stops[1:]):
-            yield marked, _ends(leaves, lane, arrives, other), title
+        for (_, leaves, lane, way), (arrives, _, other, _) in zip(stops, stops[1:]):
+            yield marked, _ends(leaves, lane, way, arrives, other), title
 
 
-def _ends(leaves, lane, arrives, other):
-    """From the near edge of one lane's block to the near edge of the other's."""
+def _ends(leaves, lane, way, arrives, other):
+    """From the near edge of one lane's block, or a frame's way, to the near edge of the other's."""
     down = lane.top <= other.top
-    start = lane.travel if lane.kind == "link" else (lane.block() + lane.block_height if down else lane.block())
+    start = lane.way(way) if lane.kind == "link" else (lane.block() + lane.block_height if down else lane.block())
     end = other.block() if down else other.block() + other.block_height
     return (leaves, start), (arrives, end)
 
 
 def _stops(scene, message):
-    """(first tick, tick from which the next may start, lane) of sender, hops and receiver."""
+    """(first tick, tick from which the next may start, lane, way) of sender, hops and receiver."""
     yield _job_stop(scene, message.sender)
     for step in message.steps:
         lane = scene.lanes.get("link", scene.meaning.link_of_frame(step.frame))
-        yield lane and (step.start, step.arrival, lane)
+        yield lane and (step.start, step.seen, lane, scene.way(step.frame))
     yield _job_stop(scene, message.receiver)
 
 
 def _job_stop(scene, job):
     lane = scene.lanes.get("core", scene.meaning.core_of_task(job.task)) if job and job.pieces else None
-    return lane and (job.first, job.last, lane)
+    return lane and (job.first, job.last, lane, None)
 
 
 def draw_travels(scene):
-    """Behind each frame its link's delay, and P dotted."""
-    scale, precision = scene.scale, scene.plan.precision
-    for number, frame in enumerate(scene.plan.rows["frame"]):
-        lane, link = scene.lanes.get("link", frame.link), scene.plan.row("link", frame.link)
-        end = frame.start + scene.meaning.frame_ticks(number)
-        if lane and link and scale.shows(end, end + link.delay + precision):
-            there, y = end + link.delay, lane.travel
-            scene.svg.line("delay", scale.x(end), y, scale.x(there), y)
-            scene.svg.line("p-wait", scale.x(there), y, scale.x(there + precision), y)
+    """Behind each frame, on its way: its link's delay, a bar from earliest to latest arrival, and P dotted."""
+    for number in range(len(scene.plan.rows["frame"])):
+        lane, arrival = scene.lanes.get("link", scene.meaning.link_of_frame(number)), scene.meaning.arrival(number)
+        end, seen = scene.meaning.frame_end(number), scene.meaning.seen(number)
+        if lane and arrival and scene.scale.shows(end, seen):
+            y = lane.way(scene.way(number))
+            _draw_way(scene, "delay", end, arrival.latest, y)
+            _draw_way(scene, "p-wait", arrival.latest, seen, y)
+            _draw_arrival(scene, number, arrival, y, lane.way_height - 1)
+
+
+def _draw_way(scene, look, start, end, y):
+    scene.svg.line(look, scene.scale.x(start), y, scene.scale.x(end), y)
+
+
+def _draw_arrival(scene, frame, arrival, y, height):
+    """A bar over the delay; its outline alone, a tick mark, where the two ticks are one."""
+    if scene.scale.shows(*arrival):
+        left, right = map(scene.scale.x, arrival)
+        title = f"{scene.plan.name('frame', frame)} arrives {arrival} by the sending node's clock"
+        scene.svg.rect("arrival", left, y - height / 2, right - left, height, title)
 
 
 def draw_marked_jobs(scene):

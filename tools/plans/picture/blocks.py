@@ -66,9 +66,10 @@ def pieces(scene):
 def frames(scene):
     plan, meaning = scene.plan, scene.meaning
     for number, row in enumerate(plan.rows["frame"]):
-        lane, end = scene.lanes.get("link", meaning.link_of_frame(number)), row.start + meaning.frame_ticks(number)
-        stream, name = plan.row("stream", row.stream), plan.name("stream", row.stream)
-        title = f"{plan.name('frame', number)}: {name} job {row.job} hop {row.hop}, {row.start}..{end}"
+        lane, end = scene.lanes.get("link", meaning.link_of_frame(number)), meaning.frame_end(number)
+        stream, name, arrival = plan.row("stream", row.stream), plan.name("stream", row.stream), meaning.arrival(number)
+        arrives = f", arrives {arrival}" if arrival else ""
+        title = f"{plan.name('frame', number)}: {name} job {row.job} hop {row.hop}, {row.start}..{end}{arrives}"
         labels = (f"{name}.{row.job} hop {row.hop}", f"{name}.{row.job}", name, f"h{row.hop}")
         yield Block("frame", number, lane, row.start, end, 0, title, labels, f"p {tint(stream.sender if stream else 0)}")
 

@@ -2,11 +2,15 @@
 from dataclasses import dataclass
 
 MANY = 20  # lanes; more are drawn low
+MOST_WAYS = 4  # under the frames of a link; the last takes all frames that are left
 
 
 @dataclass
 class Lane:
-    """A band of the picture; blocks stand from block to block + block_height, in tracks below each other."""
+    """A band of the picture; blocks stand from block to block + block_height, in tracks below each other.
+
+    A link's frames have ways under them, on which they are drawn until they have arrived.
+    """
 
     kind: str
     key: object
@@ -14,11 +18,14 @@ class Lane:
     detail: str
     top: float = 0
     tracks: int = 1
+    ways: int = 0
     low: bool = False
     jobs: bool = False
 
-    HEIGHTS = {"core": (50, 22), "link": (32, 15), "buffer": (22, 13)}
+    HEIGHTS = {"core": (50, 22), "link": (28, 13), "buffer": (22, 13)}
     MARGINS = {"core": (16, 2), "link": (6, 2), "buffer": (3, 2)}
+    BELOW = {"core": (4, 2), "link": (0, 0), "buffer": (4, 2)}
+    WAY = (6, 3)
 
     @property
     def track_height(self):
@@ -26,7 +33,7 @@ class Lane:
 
     @property
     def height(self):
-        return self.track_height * self.tracks + (18 if self.jobs else 0)
+        return self.track_height * self.tracks + self.way_height * self.ways + (18 if self.jobs else 0)
 
     @property
     def bottom(self):
@@ -37,12 +44,15 @@ class Lane:
 
     @property
     def block_height(self):
-        return self.track_height - self.MARGINS[self.kind][self.low] - (2 if self.low else 4)
+        return self.track_height - self.MARGINS[self.kind][self.low] - self.BELOW[self.kind][self.low]
 
     @property
-    def travel(self):
-        """Where the way behind a frame is drawn: under the frames, so that it crosses no label."""
-        return self.block() + self.block_height + (1 if self.low else 2)
+    def way_height(self):
+        return self.WAY[self.low]
+
+    def way(self, number):
+        """The middle of a way, which is under the frames, so that it crosses none of them."""
+        return self.block() + self.block_height + self.way_height * (number + 0.5)
 
     def middle(self, track=0):
         return self.block(track) + self.block_height / 2
@@ -73,11 +83,12 @@ def core_lanes(plan):
         yield Lane("core", number, f"{plan.name('core', number)} · node {core.node}", f"d {core.d}, v {core.v}")
 
 
-def link_lanes(plan):
-    """A lane for each link, by row."""
+def link_lanes(plan, ways):
+    """A lane for each link, by row, with as many ways as its frames need."""
     for number, link in enumerate(plan.rows["link"]):
-        nodes = f"{link.from_node}→{link.to_node}"
-        yield Lane("link", number, f"{plan.name('link', number)} · {nodes}", f"delay {link.delay}, rate {link.rate}")
+        label, delays = f"{plan.name('link', number)} · {link.from_node}→{link.to_node}", f"{link.lowest}..{link.delay}"
+        deepest = max((way for frame, way in ways.items() if plan.rows["frame"][frame].link == number), default=0)
+        yield Lane("link", number, label, f"delay {delays}, rate {link.rate}", ways=deepest + 1)
 
 
 def stray_lanes(plan, meaning):
@@ -87,7 +98,7 @@ def stray_lanes(plan, meaning):
     if None in cores:
         yield Lane("core", None, "on no core", "")
     if None in map(meaning.link_of_frame, frames):
-        yield Lane("link", None, "on no link", "")
+        yield Lane("link", None, "on no link", "", ways=1)
 
 
 def buffer_lanes(holds):
@@ -100,6 +111,14 @@ def buffer_lanes(holds):
 
 def hold_tracks(holds):
     return tracks_of([((hold.node, hold.number), hold.start, hold.end, hold) for hold in holds])
+
+
+def ways_of(plan, meaning, first, last):
+    """The way of each frame that is under way in these ticks; those of one link at once have different ones, as far as ways go."""
+    frames = range(len(plan.rows["frame"]))
+    spans = [(meaning.link_of_frame(frame), meaning.frame_end(frame), meaning.seen(frame), frame) for frame in frames]
+    tracks = tracks_of([span for span in spans if span[1] < last and span[2] >= first])
+    return {frame: min(track, MOST_WAYS - 1) for frame, track in tracks.items()}
 
 
 def tracks_of(spans):

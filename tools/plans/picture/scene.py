@@ -1,6 +1,6 @@
 """What all parts of a picture share: plan, meaning, marks, scale, lanes and the SVG they draw on."""
 from ..meaning import Meaning
-from .lanes import Lanes, buffer_lanes, core_lanes, hold_tracks, link_lanes, stray_lanes
+from .lanes import Lanes, buffer_lanes, core_lanes, hold_tracks, link_lanes, stray_lanes, ways_of
 from .marks import Marks
 from .scale import Scale, view_of, width_of
 from .style import FONT, SMALL, cut, text_width
@@ -22,6 +22,7 @@ class Scene:
         first, last = self._ticks(options)
         self.holds = [hold for hold in self.meaning.holds() if hold.start < last and hold.end > first]
         self.hold_by_job = {(hold.row, hold.job): hold for hold in self.holds}
+        self.ways = ways_of(plan, self.meaning, first, last)
         lanes = self._chosen(options.lanes)
         with_jobs = {("core", self.meaning.core_of_task(task)) for task, _ in self.marked_jobs()}
         for lane in lanes:
@@ -31,9 +32,13 @@ class Scene:
         self.lanes = Lanes(lanes, top)
         self.hold_tracks = hold_tracks(self.holds)
 
+    def way(self, frame):
+        """The way under the frames of its link that a frame has."""
+        return self.ways.get(frame, 0)
+
     def _chosen(self, names):
         """Cores and links by name, all if none is named, and the buffers whose writer or reader is on such a core."""
-        lanes = [*core_lanes(self.plan), *link_lanes(self.plan)]
+        lanes = [*core_lanes(self.plan), *link_lanes(self.plan, self.ways)]
         if not names:
             lanes += stray_lanes(self.plan, self.meaning)
         else:
@@ -60,7 +65,7 @@ class Scene:
     def _ticks(self, options):
         spans = [row for kind in ("window", "piece") for row in self.plan.rows[kind]]
         ends = [row.start + row.length for row in spans]
-        ends += [row.start + self.meaning.frame_ticks(number) for number, row in enumerate(self.plan.rows["frame"])]
+        ends += [self.meaning.frame_end(number) for number in range(len(self.plan.rows["frame"]))]
         return view_of(self.plan.cycle, ends, options.first, options.last)
 
     def _width(self, first, last):

@@ -39,6 +39,7 @@ STYLE = "".join(
         f".c{{stroke:{CHAIN};stroke-width:4;stroke-opacity:.5;fill:none;stroke-linecap:round}}.chain{{fill:{CHAIN}}}",
         f".c.am{{stroke:{MARK};stroke-width:5;stroke-opacity:.8}}.c.faint{{stroke-width:1.5;opacity:.35}}",
         f".delay{{stroke:{ARROW};stroke-width:2}}.p-wait{{stroke:{ARROW};stroke-width:2;stroke-dasharray:1.5 2}}",
+        f".arrival{{fill:#d3def0;stroke:{ARROW};stroke-width:1}}",
         f".job{{stroke:{MARK};stroke-width:1.6;fill:none;stroke-dasharray:4 2}}",
     ]
 )

@@ -59,7 +59,7 @@ def legend(scene):
     yield from (("w w0", "window"), ("v", "VCPU switch (v)"), ("d", "task switch (d)"))
     if scene.plan.rows["frame"]:
         yield "p t0", "work, or a frame in its sender's colour"
-        yield from (("delay", "link delay"), ("p-wait", "P"), ("a", "message"))
+        yield from (("delay", "link delay"), ("arrival", "arrival, earliest to latest"), ("p-wait", "P"), ("a", "message"))
     else:
         yield "p t0", "work"
     if scene.holds:

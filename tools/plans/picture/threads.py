@@ -46,11 +46,11 @@ def _core_lane(scene, task_job):
 
 
 def _stream_stops(scene, leg, job):
-    """From each frame's start to where it has arrived by every clock."""
+    """From each frame's start to where it has arrived at the latest, by every clock."""
     for step in scene.meaning.steps(leg.row, job.job):
         lane = scene.lanes.get("link", scene.meaning.link_of_frame(step.frame))
         if lane:
-            yield step.start, step.arrival, _height(lane, job)
+            yield step.start, step.seen, _height(lane, job)
 
 
 def _buffer_stops(scene, leg, job):

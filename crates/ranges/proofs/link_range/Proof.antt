@@ -14,7 +14,7 @@ link-at-requires c κs = search needs
 -- src/lib.rt:44:1
 returns : tie.Need-returns
 unfolding inRange
-returns c = rw (c .before .before .before .before .before .before .link-at .ensures) refl
+returns c = rw (c .before .before .before .before .before .before .before .link-at .ensures) refl
 
 pub link-range-spec : {M : Type 1} → statement M
 link-range-spec = tie.close (tie.spec link-at-requires returns)

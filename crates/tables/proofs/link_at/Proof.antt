@@ -27,10 +27,15 @@ field-of-requires-4 : tie.Need-field-of-requires-4
 unfolding shape
 field-of-requires-4 c κs = let p = c .before .before .before .before .pre in (p .0, (p .1, omega arith))
 
+-- src/lib.rt:230:17
+field-of-requires-5 : tie.Need-field-of-requires-5
+unfolding shape
+field-of-requires-5 c κs = let p = c .before .before .before .before .before .pre in (p .0, (p .1, omega arith))
+
 -- src/lib.rt:220:1
 returns : tie.Need-returns
 unfolding link
-returns c = rw (c .field-of4 .ensures, c .before .field-of3 .ensures, c .before .before .field-of2 .ensures, c .before .before .before .field-of .ensures) refl
+returns c = rw (c .field-of5 .ensures, c .before .field-of4 .ensures, c .before .before .field-of3 .ensures, c .before .before .before .field-of2 .ensures, c .before .before .before .before .field-of .ensures) refl
 
 pub link-at-spec : {M : Type 1} → statement M
 link-at-spec =
@@ -40,4 +45,5 @@ link-at-spec =
     field-of-requires-2
     field-of-requires-3
     field-of-requires-4
+    field-of-requires-5
     returns)
