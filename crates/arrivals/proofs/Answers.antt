@@ -1,12 +1,12 @@
 -- What each question leaves to be given: refused by the check, by 5, or given.
 use Prim.Native.Nat.{ℕ, _+_, _≤_, _<_}
-use mathlib.Core.Path.{_≡_, refl}
+use mathlib.Core.Path.{_≡_, refl, sym, _∙_}
 use mathlib.Core.Logic.{_≢_}
-use mathlib.Core.Bool.{Bool, true, false, cond}
+use mathlib.Core.Bool.{Bool, true, false, cond, true≢false}
 use mathlib.Core.List.{List}
 use native.Mathlib.Omega.{arith}
-use lib.Dec.{ltb, eqb}
-use borrow.Author.Tests.{ne-eqb, lt-ltb, le-ltb}
+use lib.Dec.{eqb}
+use borrow.Author.Tests.{eqb-true, eq-eqb, ne-eqb, ltb-true, lt-ltb, le-ltb}
 use Rattle.plan.specs.declared.Answer.{Answer}
 use Rattle.plan.specs.declared.Table.the-variants.{Links, Frames}
 use Rattle.plan.specs.Image.{rows, shape, cycleTicks, precision}
@@ -17,14 +17,29 @@ use Rattle.plan.proofs.Sounds.{accepted-sound}
 use Rattle.plan.proofs.Messages.{across-lt}
 use Rattle.arrivals.specs.Arrivals.{thenAsk, refusal, earliest, latest, arrivalAnswer, arrivalsOf}
 
+-- a refusal stands, whatever is asked next
+pub then-refused : (a refused : Answer) (ok : Bool) → a .number ≢ 0 → thenAsk a ok refused ≡ a
+unfolding thenAsk
+then-refused a refused ok h = rw (ne-eqb (a .number) 0 h) refl
+
+-- 0 comes of an acceptance and a yes
+pub then-zero : (a refused : Answer) (ok : Bool) → refused .number ≢ 0 → thenAsk a ok refused .number ≡ 0 → (a .number ≡ 0) × (ok ≡ true)
+unfolding thenAsk
+then-zero a refused ok h z = go (eqb (a .number) 0) ok refl z
+  where
+    go : (b c : Bool) → eqb (a .number) 0 ≡ b → cond b (cond c accepted refused) a .number ≡ 0 → (a .number ≡ 0) × (c ≡ true)
+    go true true p q = (eqb-true _ _ p, refl)
+    go true false p q = absurd (h q)
+    go false c p q = absurd (true≢false (sym (eq-eqb (a .number) 0 q) ∙ p))
+
 module _ (s : List ℕ) (f : ℕ) where
-  refused : (a : Answer) → arrivalAnswer s f ≡ a → a .number ≢ 0 → arrivalsOf s f ≡ refusal a
+  pub refused : (a : Answer) → arrivalAnswer s f ≡ a → a .number ≢ 0 → arrivalsOf s f ≡ refusal a
   unfolding arrivalsOf
   refused a e h = rw (e, ne-eqb (a .number) 0 h) refl
 
   pub by-check : answerOf s .number ≢ 0 → arrivalsOf s f ≡ refusal (answerOf s)
-  unfolding arrivalAnswer thenAsk
-  by-check h = refused (answerOf s) (rw (ne-eqb (answerOf s .number) 0 h) refl) h
+  unfolding arrivalAnswer
+  by-check h = refused (answerOf s) (then-refused (answerOf s) _ _ h) h
 
   module _ (e : answerOf s ≡ accepted) where
     -- 5: there is no such frame
@@ -59,18 +74,13 @@ module _ (s : List ℕ) (f : ℕ) where
       go true = refl
       go false = refl
 
-  -- 0 is an acceptance
-  pub zero-accepts : arrivalAnswer s f .number ≡ 0 → arrivalAnswer s f ≡ accepted
-  unfolding arrivalAnswer thenAsk shape
-  zero-accepts z = go (eqb (answerOf s .number) 0) (ltb f (rows s Frames)) refl z
-    where
-      no-row : Answer
-      no-row = record { number = 5; table = 8; row = f }
+  -- 0 is an acceptance, of a frame of an accepted plan
+  pub zero-frame : arrivalAnswer s f .number ≡ 0 → (answerOf s ≡ accepted) × (f < rows s Frames)
+  unfolding arrivalAnswer
+  zero-frame z = let p = then-zero (answerOf s) _ _ (λ q. absurd (omega arith)) z in (accepted-of s (p .0), ltb-true f (rows s Frames) (p .1))
 
-      go : (a b : Bool) → eqb (answerOf s .number) 0 ≡ a → cond a (cond b accepted no-row) (answerOf s) .number ≡ 0 → cond a (cond b accepted no-row) (answerOf s) ≡ accepted
-      go true true p q = refl
-      go true false p q = absurd (omega arith)
-      go false b p q = accepted-of s q
+  pub zero-accepts : arrivalAnswer s f .number ≡ 0 → arrivalAnswer s f ≡ accepted
+  zero-accepts z = let p = zero-frame z in found (p .0) (p .1)
 
   pub both : arrivalAnswer s f .number ≡ 0 → (arrivalsOf s f .earliest ≡ earliest s f) × (arrivalsOf s f .latest ≡ latest s f)
   unfolding arrivalsOf

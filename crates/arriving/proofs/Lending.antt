@@ -5,11 +5,10 @@ use mathlib.Core.Logic.{_≢_}
 use mathlib.Core.Bool.{Bool, true, false, cond}
 use mathlib.Core.List.{List, _∷_, _++_, [], flatMap}
 use native.Mathlib.Omega.{arith}
-use native.Mathlib.Decide.{decLt}
 use lib.ListN.{length, getD, drop, length-append, length-drop}
 use lib.Dec.{eqb}
 use lib.Seq.{sets, getD-append-add, getD-drop}
-use borrow.Author.Tests.{ne-eqb, le-leb, lt-leb}
+use borrow.Author.Tests.{ne-eqb, leb-true, le-leb, lt-leb}
 use Rattle.plan.specs.declared.Answer.{Answer}
 use Rattle.plan.specs.Image.{shape}
 use Rattle.plan.specs.Questions.{accepted}
@@ -21,8 +20,10 @@ use Rattle.writing.proofs.Storing.{stored-front}
 use Rattle.writing.proofs.Tables.{two-stored}
 use Rattle.arrivals.specs.Arrivals.{thenAsk, earliest, latest, arrivalAnswer, arrivalsOf, lentAnswer, arrivalNumber, arrivalBytes}
 use Rattle.arrivals.specs.Claim.{AllLent}
-use Rattle.arrivals.proofs.Answers.{zero-accepts, both, ticks-fit}
-use Rattle.arrivals.proofs.Claims.{accepted-frame}
+use Rattle.arrivals.proofs.Answers.{then-refused, then-zero, zero-frame, zero-accepts, both, ticks-fit}
+
+abbrev number : Answer → ℕ
+number a = a .number
 
 module _ (s : List ℕ) (f : ℕ) where
   -- the answer goes through C in one number
@@ -40,13 +41,15 @@ module _ (s : List ℕ) (f : ℕ) where
   lent-small b = then-small _ _ _ (then-small _ _ _ (answer-small s) (omega arith, omega arith)) (omega arith, omega arith)
 
   module _ (b : List ℕ) where
-    kept : (a : Answer) → lentAnswer s f b ≡ a → a .number ≢ 0 → arrivalBytes s f b ≡ b
+    kept : lentAnswer s f b .number ≢ 0 → arrivalBytes s f b ≡ b
     unfolding arrivalBytes
-    kept a e h = rw (e, ne-eqb (a .number) 0 h) refl
+    kept h = rw (ne-eqb (lentAnswer s f b .number) 0 h) refl
 
     pub by-value : arrivalAnswer s f .number ≢ 0 → (lentAnswer s f b ≡ arrivalAnswer s f) × (arrivalBytes s f b ≡ b)
-    unfolding lentAnswer thenAsk
-    by-value h = let e : lentAnswer s f b ≡ arrivalAnswer s f = rw (ne-eqb (arrivalAnswer s f .number) 0 h) refl in (e, kept (arrivalAnswer s f) e h)
+    unfolding lentAnswer
+    by-value h =
+        let e : lentAnswer s f b ≡ arrivalAnswer s f = then-refused (arrivalAnswer s f) _ _ h in
+        (e, kept (λ z. h (sym (ap number e) ∙ z)))
 
     module _ (e : arrivalAnswer s f ≡ accepted) where
       -- 26: there are not two words
@@ -54,7 +57,7 @@ module _ (s : List ℕ) (f : ℕ) where
       unfolding lentAnswer thenAsk
       too-short h =
           let q : lentAnswer s f b ≡ record { number = 26; table = 0; row = 0 } = rw (e, lt-leb 2 (length (wordsOf b)) (omega (arith, words-length b))) refl in
-          (q, kept (record { number = 26; table = 0; row = 0 }) q (λ z. absurd (omega arith)))
+          (q, kept (λ z. absurd (omega (arith, ap number q, z))))
 
       pub stored-both : 2 ≤ length b / 4
           → (lentAnswer s f b ≡ accepted) × (arrivalBytes s f b ≡ sets (sets b 0 (bytesOf 4 (earliest s f))) 4 (bytesOf 4 (latest s f)))
@@ -68,40 +71,23 @@ module _ (s : List ℕ) (f : ℕ) where
 abbrev Ticks : (s : List ℕ) (f : ℕ) → List ℕ
 Ticks s f = earliest s f ∷ latest s f ∷ []
 
-abbrev number : Answer → ℕ
-number a = a .number
-
 module _ (s : List ℕ) (f : ℕ) (b : List ℕ) where
-  -- refused, or accepted with two words
-  refuses : lentAnswer s f b .number ≢ 0 → arrivalBytes s f b ≡ b
-  unfolding arrivalBytes
-  refuses h = rw (ne-eqb (lentAnswer s f b .number) 0 h) refl
+  -- 0 is an acceptance, and there are two words
+  lent-zero : lentAnswer s f b .number ≡ 0 → (arrivalAnswer s f ≡ accepted) × (2 ≤ length (wordsOf b))
+  unfolding lentAnswer
+  lent-zero z = let p = then-zero (arrivalAnswer s f) _ _ (λ q. absurd (omega arith)) z in (zero-accepts s f (p .0), leb-true 2 (length (wordsOf b)) (p .1))
 
-  lent-given : lentAnswer s f b ≡ accepted → (arrivalAnswer s f ≡ accepted) × (2 ≤ length (wordsOf b))
-  lent-given e = go (arrivalAnswer s f .number) refl (decLt (length b / 4) 2)
-    where
-      go : (n : ℕ) → arrivalAnswer s f .number ≡ n → Dec (length b / 4 < 2) → (arrivalAnswer s f ≡ accepted) × (2 ≤ length (wordsOf b))
-      go zero q (no h) = (zero-accepts s f q, omega (arith, words-length b))
-      go zero q (yes h) = absurd (omega (arith, ap number (sym (too-short s f b (zero-accepts s f q) h .0) ∙ e)))
-      go (suc n) q d = absurd (omega (arith, ap number (sym (by-value s f b (λ z. absurd (omega arith)) .0) ∙ e)))
+  lent-accepts : lentAnswer s f b .number ≡ 0 → lentAnswer s f b ≡ accepted
+  lent-accepts z = let p = lent-zero z in stored-both s f b (p .0) (omega (arith, words-length b, p .1)) .0
 
   holds-both : lentAnswer s f b ≡ accepted → arrivalBytes s f b ≡ flatMap (bytesOf 4) (Ticks s f) ++ drop 8 b
   unfolding arrivalBytes
   holds-both e = rw e refl
 
-  -- a number of 0 is an acceptance
-  lent-zero : lentAnswer s f b .number ≡ 0 → lentAnswer s f b ≡ accepted
-  lent-zero z = go (arrivalAnswer s f .number) refl (decLt (length b / 4) 2)
-    where
-      go : (n : ℕ) → arrivalAnswer s f .number ≡ n → Dec (length b / 4 < 2) → lentAnswer s f b ≡ accepted
-      go zero q (no h) = stored-both s f b (zero-accepts s f q) (omega arith) .0
-      go zero q (yes h) = absurd (omega (arith, ap number (too-short s f b (zero-accepts s f q) h .0)))
-      go (suc n) q d = absurd (omega (arith, ap number (by-value s f b (λ z. absurd (omega arith)) .0)))
-
   words-left : lentAnswer s f b ≡ accepted → wordsOf (arrivalBytes s f b) ≡ arrivalsOf s f .earliest ∷ arrivalsOf s f .latest ∷ drop 2 (wordsOf b)
   words-left e =
-      let g = lent-given e in
-      let p = accepted-frame s f (g .0) in
+      let g = lent-zero (ap number e) in
+      let p = zero-frame s f (ap number (g .0)) in
       let t = ticks-fit s f (p .0) (p .1) in
       let q = both s f (ap number (g .0)) in
       rw (holds-both e, q .0, q .1)
@@ -116,10 +102,10 @@ module _ (s : List ℕ) (f : ℕ) (b : List ℕ) where
     where
       go : (n : ℕ) → lentAnswer s f b .number ≡ n → length (arrivalBytes s f b) ≡ length b
       go zero q =
-          let e = lent-zero q in
+          let e = lent-accepts q in
           ap length (holds-both e) ∙ length-append (flatMap (bytesOf 4) (Ticks s f)) (drop 8 b)
-          ∙ omega (arith, eight, length-drop 8 b, lent-given e .1, words-length b)
-      go (suc n) q = ap length (refuses (λ z. absurd (omega arith)))
+          ∙ omega (arith, eight, length-drop 8 b, lent-zero q .1, words-length b)
+      go (suc n) q = ap length (kept s f b (λ z. absurd (omega arith)))
 
   later-kept : (i : ℕ) → 8 ≤ i → getD (arrivalBytes s f b) i 0 ≡ getD b i 0
   later-kept i h = go (lentAnswer s f b .number) refl
@@ -128,11 +114,11 @@ module _ (s : List ℕ) (f : ℕ) (b : List ℕ) where
       go zero q =
           let x : i ≡ length (flatMap (bytesOf 4) (Ticks s f)) + (i - 8) = omega (arith, eight) in
           let y : 8 + (i - 8) ≡ i = omega arith in
-          ap (λ (l : List ℕ). getD l i 0) (holds-both (lent-zero q))
+          ap (λ (l : List ℕ). getD l i 0) (holds-both (lent-accepts q))
           ∙ ap (λ (j : ℕ). getD (flatMap (bytesOf 4) (Ticks s f) ++ drop 8 b) j 0) x
           ∙ getD-append-add (flatMap (bytesOf 4) (Ticks s f)) (drop 8 b) (i - 8) 0
           ∙ getD-drop 8 b (i - 8) 0 ∙ ap (λ (j : ℕ). getD b j 0) y
-      go (suc n) q = ap (λ (l : List ℕ). getD l i 0) (refuses (λ z. absurd (omega arith)))
+      go (suc n) q = ap (λ (l : List ℕ). getD l i 0) (kept s f b (λ z. absurd (omega arith)))
 
 -- ---- by the number that a C caller gets
 
@@ -143,7 +129,7 @@ module _ (s : List ℕ) (f : ℕ) (b : List ℕ) where
 
   number-zero : arrivalNumber s f b ≡ 0 → lentAnswer s f b ≡ accepted
   unfolding arrivalNumber
-  number-zero e = lent-zero s f b (answer-zero (lentAnswer s f b) (lent-small s f b) .0 e)
+  number-zero e = lent-accepts s f b (answer-zero (lentAnswer s f b) (lent-small s f b) .0 e)
 
   same-number : arrivalAnswer s f ≢ accepted → arrivalNumber s f b ≡ answerNumber (arrivalAnswer s f)
   unfolding arrivalNumber
@@ -157,7 +143,7 @@ pub all-lent : AllLent
 all-lent s f b =
     record {
       given = (
-        λ e. lent-given s f b (number-zero s f b e),
+        λ e. lent-zero s f b (ap number (number-zero s f b e)),
         λ p. zero-number s f b (stored-both s f b (p .0) (omega (arith, words-length b, p .1)) .0),
       );
       as-by-value = same-number s f b;
@@ -165,5 +151,5 @@ all-lent s f b =
       words = λ e. words-left s f b (number-zero s f b e);
       many = many-left s f b;
       later = later-kept s f b;
-      refused = λ h. refuses s f b (λ z. h (zero-number s f b (lent-zero s f b z)));
+      refused = λ h. kept s f b (λ z. h (zero-number s f b (lent-accepts s f b z)));
     }
