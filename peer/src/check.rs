@@ -384,9 +384,9 @@ impl Network<'_> {
 
     /// Question 21 for one job.
     fn is_in_time(&self, message: &Message) -> bool {
-        let [sender, _, latency, ..] = message.stream;
+        let [_, receiver, latency, ..] = message.stream;
         let bound = match latency {
-            0 => self.plan.period(sender),
+            0 => self.plan.deadline(receiver),
             given => given,
         };
         let done = wide(message.receiver.last_end) + wide(self.plan.precision);
@@ -450,7 +450,7 @@ fn ask_chains(plan: &Plan, jobs: &Jobs) -> Result<(), Answer> {
 /// 22, so that its ends have equally many jobs.
 fn chain_in_time(plan: &Plan, jobs: &Jobs, &[first, last, limit, ..]: &Chain) -> bool {
     let limit = match limit {
-        0 => plan.period(first),
+        0 => plan.deadline(last),
         given => given,
     };
     let mut pairs = jobs.of_task(first).iter().zip(jobs.of_task(last));

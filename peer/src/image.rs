@@ -249,6 +249,11 @@ impl Plan {
         self.tasks[task as usize][2]
     }
 
+    /// D, in ticks from a release.
+    pub fn deadline(&self, task: u32) -> u32 {
+        self.tasks[task as usize][4]
+    }
+
     /// The node by whose clock a lane runs.
     pub fn node_of_lane(&self, lane: usize) -> u32 {
         match lane.checked_sub(self.cores.len()) {

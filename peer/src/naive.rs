@@ -623,7 +623,7 @@ impl Image<'_> {
     fn message_in_time(&self, stream: Number) -> bool {
         let (sender, receiver) = (self.sender(stream), self.receiver(stream));
         let bound = if self.latency(stream) == 0 {
-            self.period(sender)
+            self.deadline(receiver)
         } else {
             self.latency(stream)
         };
@@ -688,7 +688,7 @@ impl Image<'_> {
     fn chain_in_time(&self, chain: Number) -> bool {
         let (first, last) = (self.first_task(chain), self.last_task(chain));
         let limit = if self.limit(chain) == 0 {
-            self.period(first)
+            self.deadline(last)
         } else {
             self.limit(chain)
         };

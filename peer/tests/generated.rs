@@ -4,7 +4,7 @@ use peer::generate::{
     accepted, bare, busy_core, cut_window, diamond, full, kept_core, large, longest_lane, medium,
     most_entries, rich, shared_buffer, small, tiny, unit_periods,
 };
-use peer::image::{Chain, Frame, Piece, Window, LONGEST, ROW_BOUNDS};
+use peer::image::{row_of, Chain, Frame, Piece, Window, LONGEST, ROW_BOUNDS};
 use peer::{check, report, Answer, Plan, Rng};
 
 fn all_accepted(count: u64, shape: fn(&mut Rng) -> Plan) {
@@ -426,6 +426,65 @@ fn chains_are_many() {
     all_met(accepted, 40, &features);
     all_met(tiny, 40, &features);
     all_met(rich, 40, &features);
+}
+
+type Limit = fn(&Plan, &Chain) -> bool;
+
+/// An E of 0 and a limit of 0: how often it is kept exactly, and what the
+/// deadlines are then.
+#[test]
+fn limits_of_0_are_many() {
+    let features: [(&str, Limit); 7] = [
+        ("a limit of 0", |_, row| row[2] == 0),
+        ("exactly kept", is_exact),
+        ("exactly kept, D below T", |plan, row| {
+            is_exact(plan, row) && plan.deadline(row[1]) < plan.period(row[1])
+        }),
+        ("exactly kept, the first D shorter", |plan, row| {
+            is_exact(plan, row) && plan.deadline(row[0]) < plan.deadline(row[1])
+        }),
+        ("exactly kept, the first D longer", |plan, row| {
+            is_exact(plan, row) && plan.deadline(row[0]) > plan.deadline(row[1])
+        }),
+        ("exactly kept, by later jobs only", |plan, row| {
+            let taken = taken(plan, row);
+            is_exact(plan, row) && taken.iter().any(|ticks| *ticks > taken[0])
+        }),
+        ("written, and taken from D to T", |plan, row| {
+            let periods = plan.deadline(row[1]) + 1..=plan.period(row[1]);
+            row[2] > 0 && periods.contains(&longest(plan, row))
+        }),
+    ];
+    for shape in [accepted, rich, tiny] {
+        let plans = (0..2_000).map(|seed| shape(&mut Rng::for_case(3, seed)));
+        let plans: Vec<Plan> = plans.collect();
+        for limits in [latencies, |plan: &Plan| plan.chains.clone()] {
+            for (name, holds) in features {
+                let has = |plan: &&Plan| limits(plan).iter().any(|row| holds(plan, row));
+                let count = plans.iter().filter(has).count();
+                println!("{name}: {count} of 2000");
+                assert!(count >= 20, "{name}: {count}");
+            }
+        }
+    }
+}
+
+/// The streams as chains of one message.
+fn latencies(plan: &Plan) -> Vec<Chain> {
+    let streams = plan.streams.iter();
+    streams
+        .map(|row| row_of([row[0], row[1], row[2]]))
+        .collect()
+}
+
+/// What the longest job takes, with P.
+fn longest(plan: &Plan, row: &Chain) -> u32 {
+    taken(plan, row).into_iter().max().unwrap_or(0) + plan.precision
+}
+
+/// Whether it is 0, and the longest job takes as many ticks as the deadline has.
+fn is_exact(plan: &Plan, row: &Chain) -> bool {
+    row[2] == 0 && longest(plan, row) == plan.deadline(row[1])
 }
 
 /// Sender and reader of every message.

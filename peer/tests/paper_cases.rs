@@ -2,7 +2,7 @@
 
 mod cases;
 
-use cases::{case_a, case_b, case_chain, two_hops, two_rows};
+use cases::{case_a, case_b, case_chain, case_chain_deadline, case_deadline, two_hops, two_rows};
 use peer::boundary::{Boundary, Peer};
 use peer::image::{
     point_back, row_of, rows_of, set_word, width, word_at, Trailer, LINK, LONGEST, TABLES, TRAILER,
@@ -509,15 +509,6 @@ fn chains_are_at_most_32() {
     expect(&plan.encode(), 3, 0, 0);
 }
 
-/// A limit of 0 is the first task's period, 10, and no more.
-#[test]
-fn chains_without_a_limit_have_their_period() {
-    let mut plan = two_rows();
-    plan.chains = rows_of(&[[0, 1, 0]]);
-    changed(plan.clone(), |plan| plan.precision = 4, 0, 0, 0);
-    changed(plan, |plan| plan.precision = 5, 31, 10, 0);
-}
-
 /// A chain of two jobs, of which the second takes a tick longer.
 #[test]
 fn chains_are_asked_of_every_job() {
@@ -666,5 +657,145 @@ fn arrivals_are_whole_words() {
             let answer = by.arrivals(&image, 0, &mut lent);
             assert_eq!((answer, &lent), (number, &expected));
         }
+    }
+}
+
+/// Request 8: an E of 0 stands for the receiver's deadline. From the sender's
+/// start at 2 to the receiver's end at 16, with P, it takes 17 ticks; T is 20.
+#[test]
+fn b_within_the_receivers_deadline() {
+    for (latency, deadline, number, table, row) in [
+        (0, 20, 0, 0, 0),
+        (0, 18, 0, 0, 0),
+        (0, 17, 0, 0, 0),
+        (0, 16, 21, 7, 0),
+        (0, 15, 10, 5, 1),
+        (17, 16, 0, 0, 0),
+        (16, 16, 21, 7, 0),
+        (16, 20, 21, 7, 0),
+        // The period written out.
+        (20, 16, 0, 0, 0),
+        (1_000_000, 16, 0, 0, 0),
+    ] {
+        let set = |plan: &mut Plan| {
+            (plan.streams[0][2], plan.tasks[1][4]) = (latency, deadline);
+        };
+        changed(case_deadline(), set, number, table, row);
+    }
+}
+
+/// Case B itself bears an E of 0 with every deadline that 10 does.
+#[test]
+fn b_with_an_e_of_0() {
+    for (deadline, number, table) in [(20, 0, 0), (14, 0, 0), (13, 10, 5)] {
+        let set = |plan: &mut Plan| {
+            (plan.streams[0][2], plan.tasks[1][4]) = (0, deadline);
+        };
+        changed(case_b(), set, number, table, u32::from(number > 0));
+    }
+}
+
+/// The sender's deadline is of no account, be it shorter or longer.
+#[test]
+fn the_senders_deadline_does_not_count() {
+    for deadline in [6, 16, 17, 20] {
+        let of_sender = |plan: &mut Plan| plan.tasks[0][4] = deadline;
+        changed(case_deadline(), of_sender, 0, 0, 0);
+        let mut late = case_deadline();
+        late.tasks[1][4] = 16;
+        changed(late, of_sender, 21, 7, 0);
+    }
+}
+
+/// P counts, one tick more of it as one less of the deadline.
+#[test]
+fn the_deadline_holds_with_p() {
+    let mut plan = case_deadline();
+    plan.links[0][2] = 0;
+    for (precision, deadline, number, table) in [
+        (3, 17, 0, 0),
+        (4, 17, 21, 7),
+        (4, 18, 0, 0),
+        (0, 16, 0, 0),
+        (2, 16, 0, 0),
+        (3, 16, 21, 7),
+    ] {
+        let set = |plan: &mut Plan| {
+            (plan.precision, plan.tasks[1][4]) = (precision, deadline);
+        };
+        changed(plan.clone(), set, number, table, 0);
+    }
+}
+
+/// The deadline is a number of ticks in each job, and not the tick at which it
+/// is due: the second job takes 18.
+#[test]
+fn the_deadline_is_the_same_in_every_job() {
+    let mut plan = case_deadline();
+    plan.cycle = 40;
+    plan.windows.iter_mut().for_each(|window| window[2] = 40);
+    plan.pieces
+        .extend([row_of([0, 1, 22, 4]), row_of([1, 1, 33, 4])]);
+    plan.frames.push(row_of([0, 1, 0, 0, 26]));
+    changed(plan.clone(), |plan| plan.tasks[1][4] = 17, 21, 7, 0);
+    changed(plan.clone(), |plan| plan.tasks[1][4] = 18, 0, 0, 0);
+    changed(plan, |plan| plan.streams[0][2] = 20, 0, 0, 0);
+}
+
+/// Likewise a chain's limit of 0 stands for the last task's deadline. From 2 to
+/// 20, with P, it takes 21 ticks; T is 30.
+#[test]
+fn chains_within_the_last_deadline() {
+    for (limit, deadline, number, table, row) in [
+        (0, 30, 0, 0, 0),
+        (0, 21, 0, 0, 0),
+        (0, 20, 31, 10, 0),
+        (0, 19, 10, 5, 2),
+        (21, 20, 0, 0, 0),
+        (20, 20, 31, 10, 0),
+        // The period written out.
+        (30, 20, 0, 0, 0),
+        (u32::MAX, 20, 0, 0, 0),
+    ] {
+        for of_others in [[6, 17], [30, 30], [20, 21], [21, 20]] {
+            let set = |plan: &mut Plan| {
+                (plan.chains[0][2], plan.tasks[2][4]) = (limit, deadline);
+                [plan.tasks[0][4], plan.tasks[1][4]] = of_others;
+            };
+            changed(case_chain_deadline(), set, number, table, row);
+        }
+    }
+}
+
+/// An E of 0 is asked first, and a limit of 0 does not loosen it.
+#[test]
+fn both_deadlines_hold() {
+    let set = |deadlines: [u32; 2]| {
+        move |plan: &mut Plan| [plan.tasks[1][4], plan.tasks[2][4]] = deadlines
+    };
+    changed(case_chain_deadline(), set([17, 21]), 0, 0, 0);
+    changed(case_chain_deadline(), set([16, 21]), 21, 7, 0);
+    changed(case_chain_deadline(), set([17, 20]), 31, 10, 0);
+    changed(case_chain_deadline(), set([16, 20]), 21, 7, 0);
+}
+
+/// On one node too: from 0 to 6 with P, T is 10.
+#[test]
+fn chains_on_one_node_have_the_last_deadline() {
+    for (limit, deadline, precision, number) in [
+        (0, 10, 4, 0),
+        (0, 10, 5, 31),
+        (0, 8, 2, 0),
+        (0, 8, 3, 31),
+        (0, 6, 0, 0),
+        (0, 6, 1, 31),
+        (10, 6, 4, 0),
+        (10, 6, 5, 31),
+    ] {
+        let mut plan = two_rows();
+        plan.chains = rows_of(&[[0, 1, limit]]);
+        plan.tasks[1][4] = deadline;
+        let table = if number == 0 { 0 } else { 10 };
+        changed(plan, |plan| plan.precision = precision, number, table, 0);
     }
 }

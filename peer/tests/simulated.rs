@@ -2,7 +2,7 @@
 
 mod cases;
 
-use cases::{case_a, case_b, case_chain, two_rows};
+use cases::{case_a, case_b, case_chain, case_chain_deadline, case_deadline, two_rows};
 use peer::boundary::{read_state, read_words, write_state, Boundary, Peer, STATE};
 use peer::generate::{shared_buffer, tiny};
 use peer::image::{row_of, rows_of};
@@ -369,6 +369,39 @@ fn a_chain_fails_alone() {
     let report = examine(&case_chain(), &tables, &run, &choices);
     assert_eq!(report.at_end.of(Fact::ChainEnded), 3);
     assert!(report.violations.is_empty());
+}
+
+/// An E of 0 and a limit of 0 promise the deadline of the task that ends, which
+/// both cases meet exactly, whatever the other's is.
+#[test]
+fn a_limit_of_0_fails_alone() {
+    let promises: [(Promise, &[Claim]); 7] = [
+        (|_| (), &[]),
+        (|plan| plan.tasks[1][4] = 16, &[Claim::Latency]),
+        (
+            |plan| (plan.tasks[1][4], plan.streams[0][2]) = (16, 17),
+            &[],
+        ),
+        (|plan| plan.tasks[2][4] = 20, &[Claim::Chain]),
+        (|plan| (plan.tasks[2][4], plan.chains[0][2]) = (20, 21), &[]),
+        (|plan| plan.tasks[0][4] = 30, &[]),
+        (|plan| plan.chains[0] = row_of([0, 1, 0]), &[]),
+    ];
+    let kept = case_chain_deadline();
+    for (number, (promise, claims)) in promises.into_iter().enumerate() {
+        let mut promised = kept.clone();
+        promise(&mut promised);
+        assert_eq!(broken_claims(&kept, &promised), claims, "{number}");
+    }
+    for plan in [case_deadline(), kept] {
+        let tables = Tables::built(&plan, &Peer).expect("the plan is accepted");
+        let run = Run::make(&Peer, &tables, 7, &all_lanes(60));
+        let choices = choices(&plan, plan.precision, &mut Rng::new(1));
+        let tally = examine(&plan, &tables, &run, &choices).tally;
+        assert!(tally.of(Fact::EndedAtDeadline) > 0);
+        let is_chain = !plan.chains.is_empty();
+        assert_eq!(tally.of(Fact::ChainEndedAtDeadline) > 0, is_chain);
+    }
 }
 
 /// Work before the release: two jobs run, and both pieces are promised to

@@ -2,12 +2,13 @@
 
 mod cases;
 
-use cases::{case_b, case_chain, two_hops, two_rows};
+use cases::{case_b, case_chain, case_chain_deadline, case_deadline, two_hops, two_rows};
 use peer::generate::{kept_core, shared_buffer, tiny};
 use peer::image::{row_of, rows_of, Piece, Window};
+use peer::mutate::write_0;
 use peer::simulate::{
     choices, edges, only_one_clock, survey, unchecked, Choice, Claim, Clocks, Delays, Dial, Edge,
-    Noticed, Report, Settings, QUESTIONS,
+    Fact, Noticed, Report, Settings, QUESTIONS,
 };
 use peer::{check, Plan, Rng};
 
@@ -36,6 +37,8 @@ fn broken_plans_are_noticed() {
             assert!(noticed >= 12 && ([24, 31].contains(&question) || harmless == 0));
         }
         assert!(by_a_tick.noticed >= 36, "question {question}");
+        let of_0 = [by_a_tick.of_0 > 0, by_aim.of_0 > 0];
+        assert_eq!(of_0, [[21, 31].contains(&question); 2]);
         let unseen = by_a_tick.noticed - by_a_tick.with_equal_clocks;
         assert_eq!(unseen > 0, [18, 20, 21, 31].contains(&question));
     }
@@ -197,6 +200,79 @@ fn a_chain_with_each_choice_of_clocks() {
             "what is harmless is so under all clocks"
         );
     }
+}
+
+/// An E of 0 and a limit of 0 with the clocks as far apart as they may be, and
+/// a tick less: with the deadline a tick shorter, only the first is too late.
+#[test]
+fn deadlines_with_each_choice_of_clocks() {
+    let kept = case_deadline();
+    let mut late = kept.clone();
+    late.tasks[1][4] -= 1;
+    let kept_chain = case_chain_deadline();
+    let mut late_chain = kept_chain.clone();
+    late_chain.tasks[2][4] -= 1;
+    for (plan, number, claims) in [
+        (kept, 0, &[][..]),
+        (late, 21, &[Claim::Latency]),
+        (kept_chain, 0, &[]),
+        (late_chain, 31, &[Claim::Chain]),
+    ] {
+        assert_eq!(check(&plan.encode()).number, number);
+        for by in [[0, 0], [0, 3], [2, 0], [3, 1], [3, 3], [3, 0]] {
+            let clocks = Clocks::from_fn(&plan, |node| by[node as usize]);
+            let found = unchecked(&plan, &[Choice::of(&plan, clocks)]).violations;
+            let found: Vec<Claim> = found.into_keys().collect();
+            assert_eq!(found, if by == [3, 0] { claims } else { &[] }, "{by:?}");
+        }
+    }
+}
+
+/// The last plan that is accepted while a task's deadline becomes shorter, tick
+/// by tick, and the first that is not.
+fn shortest_deadline(plan: &Plan, task: usize) -> (Plan, Plan) {
+    let mut kept = plan.clone();
+    loop {
+        let mut broken = kept.clone();
+        broken.tasks[task][4] -= 1;
+        if !check(&broken.encode()).is_accepted() {
+            return (kept, broken);
+        }
+        kept = broken;
+    }
+}
+
+/// Of plans with 0 wherever it is kept, those whose deadlines are as short as an
+/// E or a limit of 0 lets them be: kept exactly with the clocks as far apart as
+/// they may be, and too late with one tick less.
+#[test]
+fn deadlines_by_a_tick() {
+    let mut met = [0; 2];
+    for number in 0..800 {
+        let mut plan = tiny(&mut Rng::for_case(10, number));
+        write_0(&mut plan);
+        if number % 2 == 1 {
+            plan.streams.iter_mut().for_each(|row| row[2] = 1_000_000);
+        }
+        for task in 0..plan.tasks.len() {
+            let (kept, broken) = shortest_deadline(&plan, task);
+            let question = check(&broken.encode()).number;
+            let (at, claim, exact) = match question {
+                21 => (0, Claim::Latency, Fact::EndedAtDeadline),
+                31 if !only_one_clock(&broken) => (1, Claim::Chain, Fact::ChainEndedAtDeadline),
+                _ => continue,
+            };
+            let report = found(&kept, kept.precision);
+            assert!(report.violations.is_empty(), "{kept:?}");
+            assert!(report.tally.of(exact) > 0, "{kept:?}");
+            assert!(found(&broken, broken.precision).has(claim), "{broken:?}");
+            let nearer = found(&broken, broken.precision - 1);
+            assert!(nearer.violations.is_empty(), "{broken:?}");
+            met[at] += 1;
+        }
+    }
+    println!("{met:?}");
+    assert!(met.iter().all(|count| *count >= 36), "{met:?}");
 }
 
 /// How often every lane has moved when a claim first fails.

@@ -2,6 +2,8 @@
 import subprocess
 from dataclasses import dataclass
 
+from .lateness import late
+from .limits import KEYS
 from .ordering import fall
 from .questions import RANGES, wording
 from .schema import BY_KIND, kind_of
@@ -9,6 +11,7 @@ from .troubles import trouble
 
 ORDER = 32  # the question of the rows' order
 VALUES = 6  # the question of the values' ranges
+LIMITS = (21, 31)  # the questions of a stream's and a chain's limit
 
 
 @dataclass(frozen=True)
@@ -57,9 +60,16 @@ def fall_of(plan, answer):
 
 
 def reason(plan, answer):
-    """For question 6 the ranges of the row's values, for 32 the words that decide and where the row belongs; nothing for other answers."""
+    """For question 6 the ranges of the row's values, for 21 and 31 the ticks it takes and its limit, for 32 the words that decide and where
+    the row belongs; nothing for other answers."""
     if answer.number == VALUES and answer.kind in RANGES:
         return f"In a {answer.kind}: {RANGES[answer.kind]}."
+    if answer.number in LIMITS and answer.kind in KEYS and plan.row(answer.kind, answer.row):
+        return late(plan, answer.kind, answer.row)
+    return _out_of_order(plan, answer)
+
+
+def _out_of_order(plan, answer):
     found = fall_of(plan, answer)
     if not found:
         return ""
@@ -80,10 +90,7 @@ def _word(plan, kind, field, row):
 
 def row_title(plan, answer):
     """The row that an answer names, or nothing."""
-    if not answer.kind:
-        return ""
-    name = plan.name(answer.kind, answer.row)
-    return f" at {name}" if name.startswith(answer.kind) else f" at {answer.kind} {name}"
+    return f" at {plan.title(answer.kind, answer.row)}" if answer.kind else ""
 
 
 def lines_of(plan, answer):

@@ -1,11 +1,9 @@
-"""Chains: the path of messages that joins two tasks, and each job's ticks against the limit.
+"""Chains: the path of messages that joins two tasks.
 
 A path goes from a task to the messages it sends or writes, and from a message to the task that reads it.
 """
 from collections import deque
 from dataclasses import dataclass
-
-from .meaning import Job
 
 
 @dataclass(frozen=True)
@@ -16,18 +14,6 @@ class Leg:
     row: int
     source: int
     target: int
-
-
-@dataclass(frozen=True)
-class Stretch:
-    """A chain's job: the first and the last task's job, the ticks from start to end with P (None without pieces), the limit."""
-
-    chain: int
-    job: int
-    first: Job
-    last: Job
-    ticks: int
-    limit: int
 
 
 def legs(plan):
@@ -51,28 +37,6 @@ def path(plan, chain):
                 if leg.target == row.last:
                     return ways[-1][1]
     return None
-
-
-def limit(plan, chain):
-    """The limit, or what a limit of 0 stands for."""
-    row = plan.rows["chain"][chain]
-    first = plan.row("task", row.first)
-    return row.limit or (first.period if first else 0)
-
-
-def stretches(plan, meaning, chain):
-    """The chain's jobs: those in which its first or its last task has pieces."""
-    row = plan.rows["chain"][chain]
-    numbers = meaning.jobs_with_pieces[row.first] | meaning.jobs_with_pieces[row.last]
-    return [_stretch(plan, meaning, chain, row, number) for number in sorted(numbers)]
-
-
-def _stretch(plan, meaning, chain, row, number):
-    first, last = meaning.job(row.first, number), meaning.job(row.last, number)
-    ticks = None
-    if first and last and first.pieces and last.pieces:
-        ticks = last.last - first.first + plan.precision
-    return Stretch(chain, number, first, last, ticks, limit(plan, chain))
 
 
 def trouble_of(plan, chain):

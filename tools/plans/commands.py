@@ -7,6 +7,7 @@ from pathlib import Path
 from .answers import ORDER, ask, explained, line_before, lines_of, parse, reason
 from .files import is_text, load, plan_in, read_bytes, write_whole
 from .image import encode
+from .lateness import assumed
 from .listing import listing
 from .loads import hinders, loads
 from .ordering import in_order
@@ -124,7 +125,10 @@ def run_check(options):
     data, plan = image_and_plan(options)
     answer = ask(options.plancheck, data)
     print(explained(plan, answer))
-    if plan:
+    if plan and answer.accepted:
+        for line in assumed(plan):
+            print(line)
+    elif plan:
         tell_row(plan, answer)
     return 0 if answer.accepted else 1
 

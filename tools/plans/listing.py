@@ -4,7 +4,8 @@ pieces and frames are listed in the order of question 32, whatever order they ha
 A '!' stands behind what cannot be so in an accepted plan; the checker has the last word.
 """
 from .aligned import aligned
-from .chains import path, stretches, trouble_of
+from .chains import path, trouble_of
+from .limits import limit_of, stretches
 from .meaning import Meaning
 from .ordering import below, order_of
 from .schema import TABLES
@@ -93,6 +94,17 @@ def path_words(plan, number):
     return " → ".join(names)
 
 
+def _at_most(kind):
+    """How a column tells the ticks that a limit allows; for a 0 also whose deadline they are."""
+    def derive(plan, meaning, number):
+        limit = limit_of(plan, kind, number)
+        if limit.ticks is None:
+            return f"no task {limit.last} !"
+        return f"{limit.ticks} (default: {plan.name('task', limit.last)}'s deadline)" if limit.default else limit.ticks
+
+    return derive
+
+
 # What a listing adds to a table's columns: header and how it follows from plan, meaning and row number.
 EXTRAS = {
     "task": {
@@ -115,7 +127,11 @@ EXTRAS = {
         "end": lambda plan, meaning, number: meaning.frame_end(number),
         "arrives": lambda plan, meaning, number: meaning.arrival(number),
     },
+    "stream": {
+        "at most": _at_most("stream"),
+    },
     "chain": {
+        "at most": _at_most("chain"),
         "path": lambda plan, meaning, number: path_words(plan, number),
     },
 }
@@ -146,21 +162,21 @@ def messages(plan, meaning):
     header = ["stream", "job", "step", "ready", "start", "end", "slack", "arrives"]
     lines = []
     for stream in range(len(plan.rows["stream"])):
+        name, limit = plan.name("stream", stream), limit_of(plan, "stream", stream)
         for message in meaning.messages(stream):
-            name = plan.name("stream", stream)
-            lines += [[name, message.job, *line] for line in _message_lines(plan, message)]
+            lines += [[name, message.job, *line] for line in _message_lines(plan, message, limit.ticks)]
     ready = "the step before has ended or arrived, highest delay and P counted"
     return f"messages (ready: {ready}; arrives: by the sending node's clock)", header, lines
 
 
-def _message_lines(plan, message):
+def _message_lines(plan, message, limit):
     yield _end_line(plan, "sender", message.sender, message.sender and message.sender.release)
     for step in message.steps:
         link = plan.name("link", plan.rows["frame"][step.frame].link)
         title = f"hop {step.hop} {plan.name('frame', step.frame)} on {link}"
         yield [title, shown(step.ready), step.start, step.end, slack(step.start, step.ready), shown(step.arrival)]
     yield _end_line(plan, "receiver", message.receiver, message.ready)
-    yield [f"latency {shown(message.latency)} of {message.limit}", "", "", "", slack(message.limit, message.latency), ""]
+    yield [f"latency {shown(message.latency)} of {shown(limit)}", "", "", "", slack(limit, message.latency), ""]
 
 
 def _end_line(plan, role, job, ready):
@@ -187,8 +203,8 @@ def chains(plan, meaning):
     header = ["chain", "job", "start", "end", "ticks", "limit", "slack"]
     lines = []
     for number in range(len(plan.rows["chain"])):
-        for job in stretches(plan, meaning, number):
+        name, limit = plan.name("chain", number), limit_of(plan, "chain", number)
+        for job in stretches(meaning, limit):
             ends = [shown(job.first and job.first.first), shown(job.last and job.last.last)]
-            name = plan.name("chain", number)
-            lines.append([name, job.job, *ends, shown(job.ticks), job.limit, slack(job.limit, job.ticks)])
+            lines.append([name, job.job, *ends, shown(job.ticks), shown(limit.ticks), slack(limit.ticks, job.ticks)])
     return "chains (ticks: the last task's end less the first task's start, P counted)", header, lines

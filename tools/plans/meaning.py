@@ -60,7 +60,6 @@ class Message:
     steps: tuple
     ready: int
     latency: int
-    limit: int
 
 
 @dataclass(frozen=True)
@@ -183,6 +182,12 @@ class Meaning:
         """The task's jobs that have pieces, by number."""
         return [self.job(task, number) for number in sorted(self.jobs_with_pieces[task])]
 
+    def elapsed(self, first, last):
+        """The ticks from one job's first start to another's last end, P counted; None where one of them has no piece."""
+        if not (first and last and first.pieces and last.pieces):
+            return None
+        return last.last - first.first + self.plan.precision
+
     def missing_jobs(self, task):
         """How many of the task's jobs have no piece, and the first of them."""
         count, present = self.job_count(task), self.jobs_with_pieces[task]
@@ -200,10 +205,7 @@ class Meaning:
         sender, receiver = self.job(row.sender, number), self.job(row.receiver, number)
         steps = self.steps(stream, number, sender.last if sender else None)
         ready = steps[-1].seen if steps else sender and sender.last
-        latency = None
-        if sender and receiver and sender.pieces and receiver.pieces:
-            latency = receiver.last - sender.first + self.plan.precision
-        return Message(stream, number, sender, receiver, tuple(steps), ready, latency, self.latency_limit(row))
+        return Message(stream, number, sender, receiver, tuple(steps), ready, self.elapsed(sender, receiver))
 
     def steps(self, stream, number, ready=None):
         """The hops of a stream's job by number; the first may start at ready."""
@@ -215,11 +217,6 @@ class Meaning:
     def _step(self, number, ready):
         frame = self.plan.rows["frame"][number]
         return Step(frame.hop, number, ready, frame.start, self.frame_end(number), self.arrival(number), self.seen(number))
-
-    def latency_limit(self, stream):
-        """E, or what an E of 0 stands for."""
-        sender = self.plan.row("task", stream.sender)
-        return stream.latency or (sender.period if sender else 0)
 
     def holds(self):
         """All holds, by buffer and start."""

@@ -67,6 +67,11 @@ class Plan:
     def name(self, kind, number):
         return self.names.name(kind, number)
 
+    def title(self, kind, number):
+        """The row's name, with its kind where the name does not begin with that."""
+        name = self.name(kind, number)
+        return name if name.startswith(kind) else f"{kind} {name}"
+
     def lines(self, kind, number):
         """Where the row stands in text and where it is changed; none for a row of an image."""
         places = self.places.get(kind, ())

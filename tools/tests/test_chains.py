@@ -1,11 +1,9 @@
-"""Chains: which path joins two tasks, and each job's ticks against the limit."""
+"""Chains: which path joins two tasks."""
 import unittest
 
-from support import CASE_A, EXAMPLES
+from support import CASE_A
 
-from plans.chains import limit, path, stretches, trouble_of
-from plans.files import load
-from plans.meaning import Meaning
+from plans.chains import path, trouble_of
 from plans.reading import read_text
 
 TASKS = 6
@@ -64,29 +62,6 @@ class Troubles(unittest.TestCase):
         self.assertEqual(trouble_of(plan_of((1, 1)), 0), "first and last are one task")
         self.assertEqual(trouble_of(plan_of((0, 1)), 0), "no path")
         self.assertEqual(trouble_of(plan_of((0, 1), ("buffer", 0, 1)), 0), "")
-
-
-class Stretches(unittest.TestCase):
-    def ticks(self, name, chain=0):
-        """(job, ticks, limit) of a chain of an example."""
-        plan = load(EXAMPLES / f"{name}.txt")
-        return [(job.job, job.ticks, job.limit) for job in stretches(plan, Meaning(plan), chain)]
-
-    def test_precision_counts(self):
-        self.assertEqual(self.ticks("chain"), [(0, 17, 17)])
-        self.assertEqual(self.ticks("tunnel"), [(0, 1530, 1600), (1, 1490, 1600)])
-        self.assertEqual(self.ticks("q31-one-tick-over"), [(0, 1530, 1529), (1, 1490, 1529)])
-
-    def test_a_limit_of_0_is_the_first_tasks_period(self):
-        self.assertEqual(self.ticks("chain", 1), [(0, 13, 20)])
-        self.assertEqual(limit(plan_of((9, 0)), 0), 0)
-        plan = load(EXAMPLES / "q30-no-path.txt")
-        plan.rows["chain"][1] = plan.rows["chain"][1]._replace(first=4, last=0, limit=0)
-        self.assertEqual(limit(plan, 1), 4000)
-
-    def test_jobs_of_one_end_alone(self):
-        self.assertEqual(self.ticks("q29-no-such-task", 1), [(0, None, 20)])
-        self.assertEqual(self.ticks("q30-no-path", 1), [(0, 2230, 4000), (1, None, 4000)])
 
 
 if __name__ == "__main__":

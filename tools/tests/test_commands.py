@@ -145,6 +145,30 @@ class Commands(unittest.TestCase):
         self.assertTrue(ranges.startswith("In a link: ") and ranges.endswith("lowest at most delay."), ranges)
         self.assertEqual([line.rsplit("/", 1)[-1] for line in lines], ["fibre.txt:27: this row", "q06-lowest-above-delay.txt:6: this row"])
 
+    def test_check_of_an_accepted_plan_tells_what_a_0_stands_for(self):
+        for name, lines in (
+            ("default-latency", ["stream labels: latency of 0 stands for 19, the deadline of sort."]),
+            ("period-latency", []),
+        ):
+            ran = run("check", EXAMPLES / f"{name}.txt", "--plancheck", self.program("0 0 0"))
+            self.assertEqual((ran.returncode, ran.stdout.splitlines()), (0, ["accepted (0 0 0)", *lines]))
+
+    def test_check_of_a_limit_of_0_tells_the_period(self):
+        ran = run("check", EXAMPLES / "q21-relied-on-period.txt", "--plancheck", self.program("21 7 0"))
+        first, *told = ran.stdout.splitlines()
+        self.assertTrue(first.startswith("refused (21 7 0) at stream labels; no to question 21: "), first)
+        self.assertEqual((ran.returncode, [line.rsplit("/", 1)[-1] for line in told]), (1, [
+            "labels takes up to 20 ticks: in job 1, 38 - 22 + 4 (P). Its latency of 0 stands for 19, the deadline of sort.",
+            "In plans from before request 8 it stood for 20, the period of scan: write latency=20 to keep the old meaning.",
+            "case-b.txt:20: this row",
+            "default-latency.txt:10: this row",
+        ]))
+
+    def test_check_of_other_refusals_tells_nothing_of_zeros(self):
+        """The checker's word counts: what it refuses for another reason has that reason alone."""
+        ran = run("check", EXAMPLES / "q21-relied-on-period.txt", "--plancheck", self.program("20 7 0"))
+        self.assertNotIn("stands for", ran.stdout)
+
     def test_check_of_rows_out_of_order(self):
         rows = ("piece task=decode job=0 at=6..8", "window vcpu=guest at=8..9", "piece task=decode job=0 at=0..1")
         text = self.put("a.txt", CASE_A + "\n".join(rows))

@@ -67,7 +67,23 @@ class Listings(unittest.TestCase):
         self.assertIn("labels 0 hop 0 frame0 on 7 6 6 6 0 -".split(), lines)
 
     def test_default_latency(self):
-        self.assertIn(["labels", "0", "latency", "22", "of", "20", "-2", "!"], words("q21-default-latency"))
+        """By the receiver's deadline, which is not the sender's nor the period."""
+        self.assertIn("labels 0 latency 19 of 19 0".split(), words("default-latency"))
+        self.assertIn("labels 0 latency 19 of 18 -1 !".split(), words("q21-default-one-tick-over"))
+        self.assertIn("labels 1 latency 20 of 19 -1 !".split(), words("q21-relied-on-period"))
+        self.assertIn("labels 1 latency 20 of 20 0".split(), words("period-latency"))
+        self.assertIn("labels 0 latency 22 of 20 -2 !".split(), words("q21-default-latency"))
+
+    def test_streams_tell_what_a_latency_of_0_stands_for(self):
+        self.assertIn("0 labels scan sort 0 1 46 19 (default: sort's deadline)".split(), words("default-latency"))
+        self.assertIn("0 labels scan sort 20 1 46 20".split(), words("period-latency"))
+
+    def test_a_latency_of_0_without_a_receiver(self):
+        plan = load(EXAMPLES / "default-latency.txt")
+        plan.rows["stream"] = [plan.rows["stream"][0]._replace(receiver=7)]
+        lines = [line.split() for line in listing(plan).splitlines()]
+        self.assertIn("0 labels scan 7 0 1 46 no task 7 !".split(), lines)
+        self.assertIn("labels 0 latency - of - -".split(), lines)
 
     def test_slack_below_zero_is_flagged(self):
         self.assertIn(["labels", "0", "receiver", "sort", "10", "9", "13", "-1", "!"], words("case-b-early"))
@@ -81,20 +97,28 @@ class Listings(unittest.TestCase):
 
     def test_chains(self):
         lines = words("tunnel")
-        self.assertIn("0 scanned shoot send 1600 shoot → picture → decode → scans → send".split(), lines)
+        self.assertIn("0 scanned shoot send 1600 1600 shoot → picture → decode → scans → send".split(), lines)
         self.assertIn("scanned 0 60 1565 1530 1600 70".split(), lines)
         self.assertIn("scanned 1 2060 3525 1490 1600 110".split(), lines)
         self.assertIn("sorted 0 2 14 13 20 7".split(), words("chain"))
+        self.assertIn("reach 0 2 21 23 23 0".split(), words("default-limit"))
+
+    def test_chains_tell_what_a_limit_of_0_stands_for(self):
+        lines = words("default-limit")
+        self.assertIn("0 reach scan move 0 23 (default: move's deadline) scan → labels → sort → bays → move".split(), lines)
+        self.assertIn("1 sorted scan sort 0 19 (default: sort's deadline) scan → labels → sort".split(), lines)
+        self.assertIn("0 reach scan move 30 30 scan → labels → sort → bays → move".split(), words("period-limit"))
 
     def test_chains_out_of_their_limit(self):
         self.assertIn("scanned 0 60 1565 1530 1529 -1 !".split(), words("q31-one-tick-over"))
         self.assertIn("sorted 0 2 20 22 20 -2 !".split(), words("q31-default-limit"))
+        self.assertIn("reach 0 2 21 23 22 -1 !".split(), words("q31-default-one-tick-over"))
 
     def test_chains_without_a_path(self):
-        self.assertIn("1 sorted scan 3 0 no task 3 !".split(), words("q29-no-such-task"))
-        self.assertIn("sorted 0 2 - - 20 -".split(), words("q29-no-such-task"))
-        self.assertIn("1 sorted scan scan 0 first and last are one task !".split(), words("q29-one-task"))
-        self.assertIn("0 reach move scan 17 no path !".split(), words("q30-backwards"))
+        self.assertIn("1 sorted scan 3 0 no task 3 ! no task 3 !".split(), words("q29-no-such-task"))
+        self.assertIn("sorted 0 2 - - - -".split(), words("q29-no-such-task"))
+        self.assertIn("1 sorted scan scan 0 20 (default: scan's deadline) first and last are one task !".split(), words("q29-one-task"))
+        self.assertIn("0 reach move scan 17 17 no path !".split(), words("q30-backwards"))
 
 
 def words_of_two_jobs():

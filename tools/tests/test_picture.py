@@ -129,6 +129,14 @@ class Pictures(unittest.TestCase):
         self.assertIn("chain", labels)
         self.assertNotIn("chain", texts(drawn(*example("case-b"))))
 
+    def test_a_limit_of_0_is_the_last_tasks_deadline(self):
+        titles = [line[0].text for line in chains(drawn(*example("default-limit")))]
+        self.assertEqual(titles, ["chain reach.0: 23 of 23 ticks", "chain sorted.0: 19 of 19 ticks"])
+
+    def test_chains_that_share_a_message_stand_apart(self):
+        (_, reach), (_, sorted_) = (parts(line)[0] for line in chains(drawn(*example("chain"))))
+        self.assertNotEqual(reach, sorted_)
+
     def test_a_chain_without_a_path_has_no_line(self):
         self.assertEqual(len(chains(drawn(load(EXAMPLES / "q30-backwards.txt")))), 1)
 
@@ -357,6 +365,11 @@ class Words(unittest.TestCase):
         title = " ".join(texts(drawn(*example("q32-pieces-by-task"))))
         self.assertIn("refused (32 5 5) at piece5; no to question 32: do windows, pieces and frames rise by start,", title)
         self.assertIn("piece5 is below piece4: equal start 12; task 0 (beat) is below 4 (log). It belongs before piece4.", title)
+
+    def test_a_late_row_is_told_in_the_title(self):
+        title = " ".join(texts(drawn(*example("q31-default-one-tick-over"))))
+        self.assertIn("reach takes up to 23 ticks: in job 0, 21 - 2 + 4 (P). Its limit of 0 stands for 22, the deadline of move.", title)
+        self.assertIn("write limit=30 to keep the old meaning.", title)
 
     def test_answers_in_words(self):
         plan, answer = example("q13-a-tick-short")

@@ -1,21 +1,20 @@
 -- A writer's jobs start in their own periods, so a row's holds rise with their jobs; and writer and reader have as many jobs.
-use Prim.Native.Nat.{ℕ, _+_, _*_, _/_, _≤_, _<_}
+use Prim.Native.Nat.{ℕ, _+_, _*_, _≤_, _<_}
 use mathlib.Core.Path.{_≡_, refl, ap, subst}
 use mathlib.Core.Logic.{_⊎_, inl, inr}
-use mathlib.Core.Bool.{Bool, true, false, cond}
+use mathlib.Core.Bool.{cond}
 use mathlib.Core.List.{List}
-use native.Mathlib.Nat.{mul-le-mul-right, eq-or-lt-of-le, suc-mul, div-mul-le-self}
+use native.Mathlib.Nat.{mul-le-mul-right, eq-or-lt-of-le, suc-mul}
 use native.Mathlib.Omega.{arith}
 use lib.Dec.{eqb}
 use Rattle.plan.specs.declared.Table.the-variants.{Tasks, Pieces, Buffers}
 use Rattle.plan.specs.Image.{rows, cycleTicks, piece, task, buffer}
-use Rattle.plan.specs.Search.{smallest}
 use Rattle.plan.specs.Questions.{pieceQuestions, bufferQuestions, each, questionAt, bufferEnds, nodeOf, jobs, release, due, ofJob, firstStart, hold, pieceEnd}
 use Rattle.plan.specs.Held.{Sound, Passed}
 use Rattle.plan.proofs.Searching.{and-true}
 use Rattle.plan.proofs.Asking.{passed-row}
 use Rattle.plan.proofs.Jobs.{of-job}
-use Rattle.plan.proofs.Spans.{smallest-le, smallest-is}
+use Rattle.plan.proofs.Spans.{smallest-le, first-released}
 use Rattle.jobs.proofs.Held.{piece-fits, has-piece}
 use borrow.Author.Tests.{eqb-true}
 
@@ -31,13 +30,6 @@ same-jobs s h b l =
 module _ (s : List ℕ) (h : Sound s) (p : Passed (pieceQuestions s) 7) (t : ℕ) (lt : t < rows s Tasks) where
   abbrev T : ℕ
   T = task s t .period
-
-  -- job k's own ticks, k×T to (k+1)×T, lie in the cycle
-  in-cycle : (k : ℕ) → k < jobs s t → (k + 1) * T ≤ cycleTicks s
-  unfolding jobs
-  in-cycle k l =
-      let q : k + 1 ≤ cycleTicks s / T = omega arith in
-      omega (arith, mul-le-mul-right T q, div-mul-le-self (cycleTicks s) T)
 
   abbrev starts : ℕ → ℕ → ℕ
   starts k i = cond (ofJob s t k i) (piece s i .start) (cycleTicks s)
@@ -55,23 +47,8 @@ module _ (s : List ℕ) (h : Sound s) (p : Passed (pieceQuestions s) 7) (t : ℕ
       omega (arith, h .ranges Tasks t lt .4, suc-mul k T, f .1)
 
   first-low : (k : ℕ) → k < jobs s t → k * T ≤ firstStart s t k
-  unfolding firstStart release
-  first-low k l = go (smallest-is (cycleTicks s) (starts k) (rows s Pieces))
-    where
-      go : (smallest (cycleTicks s) (rows s Pieces) (starts k) ≡ cycleTicks s) ⊎ ((i : ℕ) × (i < rows s Pieces) × (smallest (cycleTicks s) (rows s Pieces) (starts k) ≡ starts k i))
-          → k * T ≤ smallest (cycleTicks s) (rows s Pieces) (starts k)
-      go (inl e) = omega (arith, e, in-cycle k l, suc-mul k T)
-      go (inr w) = pick (ofJob s t k (w .0)) refl
-        where
-          pick : (b : Bool) → ofJob s t k (w .0) ≡ b → k * T ≤ smallest (cycleTicks s) (rows s Pieces) (starts k)
-          pick true e =
-              let q = of-job s t k (w .0) e in
-              let here : starts k (w .0) ≡ piece s (w .0) .start = rw e refl in
-              let f : k * T ≤ piece s (w .0) .start = rw (q .0, q .1) at (piece-fits s h 7 p (omega arith) (w .0) (w .1) .2) in
-              omega (arith, w .2)
-          pick false e =
-              let here : starts k (w .0) ≡ cycleTicks s = rw e refl in
-              omega (arith, w .2, in-cycle k l, suc-mul k T)
+  unfolding release
+  first-low k l = first-released s (piece-fits s h 7 p (omega arith)) t k l
 
   pub starts-rise : (x y : ℕ) → x ≤ y → y < jobs s t → firstStart s t x ≤ firstStart s t y
   starts-rise x y l m = go (eq-or-lt-of-le l)

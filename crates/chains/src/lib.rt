@@ -19,8 +19,8 @@ use tables::chain_at;
 use tables::precision_ticks;
 use tables::refusal;
 use tables::rows_of;
-use tables::task_at;
 use terms::jobs_of;
+use terms::or_deadline;
 
 // 29: do the chain's tasks exist, and differ?
 fn chain_tasks(image: &[u8], chain: u32) -> bool
@@ -32,17 +32,13 @@ fn chain_tasks(image: &[u8], chain: u32) -> bool
     (c.first < tasks) & (c.last < tasks) & !(c.first == c.last)
 }
 
-// A chain's limit; 0 stands for the first task's period.
+// A chain's limit; 0 stands for the last task's deadline.
 fn chain_limit(image: &[u8], chain: u32) -> u32
     requires { ⌜ Sound (now image) × ((chain < rows (now image) Chains) × Passed (chainQuestions (now image)) 1) ⌝ }
     ensures { λ r. ⌜ r ≡ chainLimit (now (image .entry)) chain ⌝ }
 {
     let c = chain_at(image, chain);
-    if c.limit == 0 {
-        task_at(image, c.first).period
-    } else {
-        c.limit
-    }
+    or_deadline(image, c.limit, c.last)
 }
 
 // 31: does a job of the last task end within the limit, from the start of the first task's?

@@ -8,7 +8,7 @@ ghost use Rattle.plan.specs.Image.{rows, stream, link};
 ghost use Rattle.plan.specs.Held.{Sound};
 ghost use Rattle.plan.specs.Search.{any};
 ghost use Rattle.plan.specs.Questions.{coreOf, nodeOf, jobs, release, due, switchTicks, windowCore, windowEnd, keepsFrom, charge, pieceCore, pieceEnd};
-ghost use Rattle.plan.specs.Questions.{streamPeriod, limit, sendTicks, frameEnd, across};
+ghost use Rattle.plan.specs.Questions.{streamPeriod, orDeadline, limit, sendTicks, frameEnd, across};
 use plan::Table;
 use tables::core_at;
 use tables::cycle_ticks;
@@ -157,17 +157,25 @@ pub fn stream_period(image: &[u8], stream: u32) -> u32
     task_at(image, stream_at(image, stream).sender).period
 }
 
-// A stream's latency limit; an E of 0 stands for the sender's period.
+// A limit's word, where 0 stands for the deadline of the task.
+pub fn or_deadline(image: &[u8], word: u32, task: u32) -> u32
+    requires { ⌜ Sound (now image) × (task < rows (now image) Tasks) ⌝ }
+    ensures { λ r. ⌜ r ≡ orDeadline (now (image .entry)) word task ⌝ }
+{
+    if word == 0 {
+        task_at(image, task).deadline
+    } else {
+        word
+    }
+}
+
+// A stream's latency limit; an E of 0 stands for the receiver's deadline.
 pub fn limit_of(image: &[u8], stream: u32) -> u32
     requires { ⌜ Sound (now image) × (stream < rows (now image) Streams) ⌝ }
     ensures { λ r. ⌜ r ≡ limit (now (image .entry)) stream ⌝ }
 {
-    let latency = stream_at(image, stream).latency;
-    if latency == 0 {
-        stream_period(image, stream)
-    } else {
-        latency
-    }
+    let m = stream_at(image, stream);
+    or_deadline(image, m.latency, m.receiver)
 }
 
 // The bytes of a frame on the wire besides its payload: tagged Ethernet's header, check, preamble and gap.

@@ -54,14 +54,16 @@ fn print_survey(survey: Survey) {
 
 fn print_noticed(title: &str, noticed: [Noticed; QUESTIONS.len()]) {
     println!("{title}");
-    println!("question  broken  noticed  with equal clocks  harmless");
+    println!("question  broken  noticed  with equal clocks  E or limit 0  harmless");
     for (question, found) in QUESTIONS.into_iter().zip(noticed) {
         let Noticed {
             broken,
             noticed,
             with_equal_clocks,
+            of_0,
             harmless,
         } = found;
-        println!("{question:8} {broken:7} {noticed:8} {with_equal_clocks:18} {harmless:9}");
+        print!("{question:8} {broken:7} {noticed:8} {with_equal_clocks:18}");
+        println!(" {of_0:13} {harmless:9}");
     }
 }

@@ -1,5 +1,6 @@
 //! Chains laid along the messages of a plan.
 
+use std::cmp::Ordering;
 use std::collections::BTreeMap;
 
 use crate::image::{row_of, Chain, Plan, CHAIN, ROW_BOUNDS};
@@ -25,9 +26,14 @@ pub fn lay_chains(plan: &Plan, wanted: Option<usize>, rng: &mut Rng) -> Option<V
         return (wanted.unwrap_or(0) == 0).then(Vec::new);
     }
     let spans = spans(plan);
+    let exact = exact_pairs(plan, &steps, &spans);
     let chain = |_| {
         let first = rng.pick(&leading);
         let last = any_last(&steps[first as usize], rng);
+        let (first, last) = match rng.pick_any(&exact) {
+            Some(pair) if rng.chance(30) => pair,
+            _ => (first, last),
+        };
         row_of([first, last, any_limit(plan, &spans, first, last, rng)])
     };
     Some((0..count).map(chain).collect())
@@ -77,14 +83,33 @@ fn spans(plan: &Plan) -> Spans {
     spans
 }
 
-/// A limit that every job keeps, often the least.
-fn any_limit(plan: &Plan, spans: &Spans, first: u32, last: u32, rng: &mut Rng) -> u32 {
-    let period = plan.period(first);
+/// The least limit that every job keeps.
+fn least_limit(plan: &Plan, spans: &Spans, first: u32, last: u32) -> u32 {
     let jobs = 0..plan.jobs(first);
     let taken = jobs.map(|k| spans[&(last, k)].1 - spans[&(first, k)].0);
-    let least = taken.max().unwrap_or(0) + plan.precision;
-    let zero = if least <= period { 0 } else { least };
+    taken.max().unwrap_or(0) + plan.precision
+}
+
+/// The pairs of tasks between which a limit of 0 is exactly kept.
+fn exact_pairs(plan: &Plan, steps: &Steps, spans: &Spans) -> Vec<(u32, u32)> {
+    let firsts = (0..).zip(steps);
+    let pairs = firsts.flat_map(|(first, reached)| reached.keys().map(move |last| (first, *last)));
+    let is_exact =
+        |&(first, last): &(u32, u32)| least_limit(plan, spans, first, last) == plan.deadline(last);
+    pairs.filter(is_exact).collect()
+}
+
+/// A limit that every job keeps, often the least, or 0 where that is exactly
+/// kept.
+fn any_limit(plan: &Plan, spans: &Spans, first: u32, last: u32, rng: &mut Rng) -> u32 {
+    let period = plan.period(first);
+    let least = least_limit(plan, spans, first, last);
     let loose = rng.within(least..=least + period);
     let huge = u32::MAX - rng.within(0..=period);
-    rng.pick(&[least, least, least, zero, zero, loose, huge])
+    let limits = match least.cmp(&plan.deadline(last)) {
+        Ordering::Less => [least, least, least, 0, 0, loose, huge],
+        Ordering::Equal => [least, 0, 0, 0, 0, loose, huge],
+        Ordering::Greater => [least, least, least, least, loose, loose, huge],
+    };
+    rng.pick(&limits)
 }

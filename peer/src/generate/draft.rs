@@ -1,5 +1,7 @@
 //! A plan in the making.
 
+use std::cmp::Ordering;
+
 use super::chains::lay_chains;
 use super::timeline::Timeline;
 use super::windows::lay_windows;
@@ -350,9 +352,25 @@ impl Draft {
                 .zip(0..)
                 .map(|(jobs, k)| jobs[index].1 - k * period);
             let least = ends.max().unwrap_or(period);
-            let choice = [least, period, rng.within(least..=period)];
+            let any = rng.within(least..=period);
+            let mut choice = vec![least, period, any];
+            if rng.chance(60) {
+                choice.extend(self.exact_deadlines(&transaction.flows, index, spans));
+                choice.retain(|deadline| (least..=period).contains(deadline));
+            }
             self.plan.tasks[first_task as usize + index][4] = rng.pick(&choice);
         }
+    }
+
+    /// The deadlines with which an E or a limit of 0 from a task that leads
+    /// to another one is exactly met.
+    fn exact_deadlines(&self, flows: &[Flow], to: usize, spans: &[Vec<Span>]) -> Vec<u32> {
+        let exact = |from: usize| {
+            let taken = spans.iter().map(|jobs| jobs[to].1 - jobs[from].0);
+            Some(taken.max()? + self.plan.precision)
+        };
+        let leading = leading_to(flows, to).into_iter();
+        leading.filter_map(exact).collect()
     }
 
     fn set_latency(
@@ -361,14 +379,18 @@ impl Draft {
         pairs: impl Iterator<Item = (Span, Span)>,
         rng: &mut Rng,
     ) -> Option<()> {
-        let period = self.plan.period(self.plan.streams[stream as usize][0]);
+        let deadline = self.plan.deadline(self.plan.streams[stream as usize][1]);
         let taken = pairs.map(|(sender, receiver)| receiver.1 - sender.0);
         let least = taken.max()? + self.plan.precision;
         if least > LONGEST_LATENCY {
             return None;
         }
-        let zero = if least <= period { 0 } else { least };
-        let choice = [least, least, zero, rng.within(least..=LONGEST_LATENCY)];
+        let any = rng.within(least..=LONGEST_LATENCY);
+        let choice = match least.cmp(&deadline) {
+            Ordering::Less => [least, least, 0, any],
+            Ordering::Equal => [least, 0, 0, 0],
+            Ordering::Greater => [least, least, least, any],
+        };
         self.plan.streams[stream as usize][2] = rng.pick(&choice);
         Some(())
     }
@@ -420,6 +442,18 @@ impl Draft {
         self.plan.chains = lay_chains(&self.plan, chains, rng)?;
         Some(shuffled(self.plan, rng))
     }
+}
+
+/// The tasks of a transaction from which flows lead to one of them.
+fn leading_to(flows: &[Flow], to: usize) -> Vec<usize> {
+    let mut reached = vec![to];
+    for task in (0..to).rev() {
+        let leads = |flow: &Flow| flow.from == task && reached.contains(&flow.to);
+        if flows.iter().any(leads) {
+            reached.push(task);
+        }
+    }
+    reached.split_off(1)
 }
 
 /// A pause before something that could start at once.

@@ -1,6 +1,7 @@
 //! Changes aimed at questions 29 to 31.
 
-use super::{any_pair, any_row, any_where, insert, job_span, wide, word};
+use super::deadlines::{self, taken};
+use super::{any_pair, any_row, any_where, insert, streams, wide, word};
 use crate::image::{row_of, Chain, Plan, CHAIN};
 use crate::rng::Rng;
 
@@ -95,7 +96,7 @@ fn apart(plan: &Plan, rng: &mut Rng) -> Option<(u32, u32)> {
     let period = |task: usize| plan.period(task as u32);
     let apart = |a: usize, b: usize| a != b && !reached[a][b];
     let alike = |a: usize, b: usize| apart(a, b) && period(a) == period(b);
-    let pair = match rng.below(8) {
+    let pair = match rng.below(10) {
         // Backwards.
         0 => any_pair(tasks, |a, b| apart(a, b) && reached[b][a], rng),
         // Two that one task leads to.
@@ -109,7 +110,7 @@ fn apart(plan: &Plan, rng: &mut Rng) -> Option<(u32, u32)> {
             any_pair(tasks, |a, b| alike(a, b) && common(a, b), rng)
         }
         // The writer of one row of a buffer and the reader of another.
-        3 | 7 => {
+        3 | 7..=9 => {
             let one_buffer = |a: u32, b: u32| plan.node_of_task(a) == plan.node_of_task(b);
             let one_number = |a: usize, b: usize| {
                 let ([one, writer, ..], [other, _, reader, ..]) =
@@ -174,16 +175,18 @@ fn cut_stream(plan: &mut Plan, rng: &mut Rng) -> Option<()> {
 }
 
 pub fn limit(plan: &mut Plan, rng: &mut Rng) -> Option<()> {
-    if rng.chance(20) {
-        return a_period_and_no_more(plan, rng);
+    match rng.below(20) {
+        0..=2 => return a_deadline_and_no_more(plan, rng),
+        3..=9 => return limit_of_0(plan, rng),
+        _ => {}
     }
     let (first, last) = joined(plan, rng)?;
-    let period = wide(plan.period(first));
+    let deadline = wide(plan.deadline(last));
     let taken = taken(plan, first, last);
     let precision = wide(plan.precision);
     let least = taken.iter().copied().max()? + precision;
     let of_first_job = taken[0] + precision;
-    let limits = if least > period && rng.chance(60) {
+    let limits = if least > deadline && rng.chance(60) {
         [0; 8]
     } else {
         let without = least - rng.pick(&[precision, 1]);
@@ -203,58 +206,89 @@ pub fn limit(plan: &mut Plan, rng: &mut Rng) -> Option<()> {
     put(plan, [first, last, word(limit)], rng)
 }
 
-/// A chain with a limit of 0 that is met exactly, or missed by a tick. For that
-/// P becomes what it takes, where the streams are in the way without them.
-fn a_period_and_no_more(plan: &mut Plan, rng: &mut Rng) -> Option<()> {
+/// A limit of 0 with deadlines for which it matters whose it is and by how
+/// much. For that P may become another, where the streams are in the way
+/// without them or with one alone. They get an E that is not in the way.
+fn limit_of_0(plan: &mut Plan, rng: &mut Rng) -> Option<()> {
+    let is_later = rng.chance(50);
+    let (first, last) = match rng.below(5) {
+        0 | 1 => {
+            streams::leave_one(plan, is_later, rng)?;
+            (plan.streams[0][0], plan.streams[0][1])
+        }
+        2 => {
+            leave_buffers(plan);
+            let [_, first, last, ..] = plan.buffers[any_row(&plan.buffers, rng)?];
+            let [lowest, highest] = deadlines::telling_precisions(plan, first, last)?;
+            (lowest <= highest).then_some(())?;
+            plan.precision = rng.within(word(lowest)..=word(highest));
+            (first, last)
+        }
+        _ => {
+            let serves = |&(first, last): &(u32, u32)| {
+                let is_telling = !is_later || deadlines::is_later(plan, first, last);
+                is_telling && deadlines::can_tell(plan, first, last)
+            };
+            some_pairs(plan, rng).into_iter().find(serves)?
+        }
+    };
+    plan.streams.iter_mut().for_each(|row| row[2] = 1_000_000);
+    deadlines::tell(plan, first, last, rng)?;
+    put(plan, [first, last, 0], rng)
+}
+
+/// Takes out the streams, and the chains that need them.
+fn leave_buffers(plan: &mut Plan) {
     plan.streams.clear();
     plan.frames.clear();
+    keep_joined(plan);
+}
+
+/// Takes out the chains that no path joins.
+pub fn keep_joined(plan: &mut Plan) {
     let reached = reached(plan);
     let joined = |row: &Chain| reached[row[0] as usize][row[1] as usize];
     plan.chains.retain(joined);
+}
+
+/// A chain with a limit of 0 that is met exactly, or missed by a tick. For that
+/// P becomes what it takes, where the streams are in the way without them.
+fn a_deadline_and_no_more(plan: &mut Plan, rng: &mut Rng) -> Option<()> {
+    leave_buffers(plan);
     let [_, first, last, ..] = plan.buffers[any_row(&plan.buffers, rng)?];
     let longest = taken(plan, first, last).into_iter().max()?;
-    let precision = wide(plan.period(first)) - longest + rng.pick(&[0, 1, 1]);
+    let precision = wide(plan.deadline(last)) - longest + rng.pick(&[0, 1, 1]);
     plan.precision = word(precision);
     put(plan, [first, last, 0], rng)?;
     (0..=10_000).contains(&precision).then_some(())
 }
 
 /// Two tasks that a path joins, often ones for which the limit is telling: of
-/// which a later job takes longest, or that take longer than a period.
+/// which a later job takes longest, or that take longer than the last one's
+/// deadline.
 fn joined(plan: &Plan, rng: &mut Rng) -> Option<(u32, u32)> {
     if let Some(row) = any_row(&plan.chains, rng).filter(|_| rng.chance(40)) {
         let [first, last, ..] = plan.chains[row];
         return Some((first, last)).filter(|_| reached(plan)[first as usize][last as usize]);
     }
+    let pairs = some_pairs(plan, rng);
+    let mut some = pairs.iter().copied();
+    let telling = match rng.below(3) {
+        0 => some.find(|&(first, last)| deadlines::is_later(plan, first, last)),
+        1 => some.find(|&(first, last)| !deadlines::bears_0(plan, first, last)),
+        _ => None,
+    };
+    telling.or(pairs.first().copied())
+}
+
+/// Some of the pairs of tasks that a path joins, in any order.
+fn some_pairs(plan: &Plan, rng: &mut Rng) -> Vec<(u32, u32)> {
     let reached = reached(plan);
     let tasks = 0..plan.tasks.len();
     let pairs = tasks.flat_map(|first| (0..plan.tasks.len()).map(move |last| (first, last)));
     let pairs = pairs.filter(|(first, last)| reached[*first][*last]);
     let mut pairs: Vec<(u32, u32)> = pairs.map(|(a, b)| (a as u32, b as u32)).collect();
     rng.shuffle(&mut pairs);
-    let some = pairs.iter().copied().take(40);
-    let telling = match rng.below(3) {
-        0 => some.clone().find(|&(first, last)| {
-            let taken = taken(plan, first, last);
-            taken.iter().any(|ticks| *ticks > taken[0])
-        }),
-        1 => some.clone().find(|&(first, last)| {
-            let longest = taken(plan, first, last).into_iter().max();
-            let period = wide(plan.period(first));
-            longest.is_some_and(|ticks| ticks + wide(plan.precision) > period)
-        }),
-        _ => None,
-    };
-    telling.or(pairs.first().copied())
-}
-
-/// The ticks from the first task's start to the last one's end, job by job.
-fn taken(plan: &Plan, first: u32, last: u32) -> Vec<i64> {
-    let jobs = 0..plan.jobs(first).min(2_048);
-    let ticks = jobs.filter_map(|k| {
-        let (start, _) = job_span(plan, first, k)?;
-        let (_, end) = job_span(plan, last, k)?;
-        Some(end - start)
-    });
-    ticks.collect()
+    pairs.truncate(40);
+    pairs
 }

@@ -8,6 +8,7 @@ mod bytes;
 mod chains;
 mod charges;
 mod cores;
+mod deadlines;
 mod order;
 mod streams;
 
@@ -128,7 +129,7 @@ fn change(question: u32, plan: &mut Plan, rng: &mut Rng) -> Option<()> {
 
 /// Changes that most plans bear.
 fn harmless(plan: &mut Plan, rng: &mut Rng) {
-    match rng.below(10) {
+    match rng.below(11) {
         0 => plan.precision = plan.precision.saturating_sub(1),
         1 => plan.tasks.iter_mut().for_each(|task| task[4] = task[2]),
         2 => plan.tasks.iter_mut().for_each(|task| task[1] = u32::MAX),
@@ -146,10 +147,27 @@ fn harmless(plan: &mut Plan, rng: &mut Rng) {
                 *lowest = rng.pick(&[0, any, *delay]);
             }
         }
+        9 => write_0(plan),
         _ if plan.windows.len() < ROW_BOUNDS[WINDOW as usize - 1].1 as usize => {
             generate::cut_window(plan, rng);
         }
         _ => {}
+    }
+}
+
+/// Puts a 0 wherever an E or a limit of 0 is kept.
+pub fn write_0(plan: &mut Plan) {
+    for row in 0..plan.streams.len() {
+        let [sender, receiver, ..] = plan.streams[row];
+        if deadlines::bears_0(plan, sender, receiver) {
+            plan.streams[row][2] = 0;
+        }
+    }
+    for row in 0..plan.chains.len() {
+        let [first, last, ..] = plan.chains[row];
+        if deadlines::bears_0(plan, first, last) {
+            plan.chains[row][2] = 0;
+        }
     }
 }
 

@@ -1,6 +1,6 @@
 //! Changes aimed at questions 14 to 21.
 
-use super::{any_row, any_where, insert, job_span, wide, word};
+use super::{any_row, any_where, chains, deadlines, insert, job_span, wide, word};
 use crate::image::{row_of, Frame, Plan, FRAME, LINK, ROW_BOUNDS};
 use crate::rng::Rng;
 
@@ -379,30 +379,88 @@ fn own_link(plan: &mut Plan, frame: usize) -> Option<()> {
 }
 
 pub fn latency(plan: &mut Plan, rng: &mut Rng) -> Option<()> {
-    let beyond_period = |stream: usize| {
-        let period = plan.period(plan.streams[stream][0]);
-        least_latency(plan, stream).is_some_and(|least| least > wide(period))
-    };
-    if rng.chance(20) {
-        let stream = any_where(plan.streams.len(), beyond_period, rng)?;
-        plan.streams[stream][2] = 0;
-        return Some(());
+    if rng.chance(80) {
+        return latency_of_0(plan, rng);
     }
     let stream = any_row(&plan.streams, rng)?;
-    let least = word(least_latency(plan, stream)?);
-    let bounds = [least.wrapping_sub(1), least.wrapping_sub(1), least, 1, 0];
+    let [sender, receiver, ..] = plan.streams[stream];
+    let least = word(deadlines::least(plan, sender, receiver)?);
+    let bounds = [least.wrapping_sub(1), least.wrapping_sub(1), least, 1];
     plan.streams[stream][2] = rng.pick(&bounds);
     Some(())
 }
 
-/// The least E that question 21 bears, if not written as 0.
-fn least_latency(plan: &Plan, stream: usize) -> Option<i64> {
-    let [sender, receiver, ..] = plan.streams[stream];
-    let jobs = plan.jobs(sender).min(2_048);
-    let taken = (0..jobs).filter_map(|k| {
-        let (start, _) = job_span(plan, sender, k)?;
-        let (_, end) = job_span(plan, receiver, k)?;
-        Some(end - start)
+/// An E of 0 that is passed already, or with deadlines for which it matters
+/// whose it is and by how much.
+fn latency_of_0(plan: &mut Plan, rng: &mut Rng) -> Option<()> {
+    let is_passed = rng.chance(15);
+    let is_later = rng.chance(50);
+    let row = if is_passed || rng.chance(40) {
+        let serves = |row: usize| {
+            let [sender, receiver, ..] = plan.streams[row];
+            if is_passed {
+                return !deadlines::bears_0(plan, sender, receiver);
+            }
+            let is_telling = !is_later || deadlines::is_later(plan, sender, receiver);
+            is_telling && deadlines::can_tell(plan, sender, receiver)
+        };
+        any_where(plan.streams.len(), serves, rng)?
+    } else {
+        leave_one(plan, is_later, rng)?;
+        0
+    };
+    let [sender, receiver, ..] = plan.streams[row];
+    plan.streams[row][2] = 0;
+    if is_passed {
+        return Some(());
+    }
+    deadlines::tell(plan, sender, receiver, rng)
+}
+
+/// Leaves one stream, each frame of one tick, without delay and as soon as may
+/// be, with a P that tells; if wanted, one of which a later job takes longest.
+pub fn leave_one(plan: &mut Plan, is_later: bool, rng: &mut Rng) -> Option<()> {
+    let serves = |row: usize| {
+        let [sender, receiver, ..] = plan.streams[row];
+        let is_telling = !is_later || deadlines::is_later(plan, sender, receiver);
+        is_telling && precisions_alone(plan, row).is_some()
+    };
+    let row = any_where(plan.streams.len(), serves, rng)?;
+    let [lowest, highest] = precisions_alone(plan, row)?;
+    plan.precision = rng.within(lowest..=highest);
+    let [sender, receiver, latency, hops, ..] = plan.streams[row];
+    plan.streams = vec![row_of([sender, receiver, latency, hops, 46])];
+    chains::keep_joined(plan);
+    for link in &mut plan.links {
+        (link[2], link[3], link[4]) = (0, 10_000, 0);
+    }
+    plan.frames.retain(|frame| frame[0] as usize == row);
+    for row in 0..plan.frames.len() {
+        let [_, k, hop, ..] = plan.frames[row];
+        let (_, sent) = job_span(plan, sender, k)?;
+        let start = sent + wide(hop) * (1 + wide(plan.precision));
+        (plan.frames[row][0], plan.frames[row][4]) = (0, word(start));
+    }
+    Some(())
+}
+
+/// The lowest and the highest P that would tell, and that a stream alone bears
+/// if its frames take one tick and have no delay.
+fn precisions_alone(plan: &Plan, row: usize) -> Option<[u32; 2]> {
+    let [sender, receiver, _, hops, ..] = plan.streams[row];
+    let [lowest, highest] = deadlines::telling_precisions(plan, sender, receiver)?;
+    let each = ticks_between(plan, sender, receiver)? / wide(hops.max(1));
+    let highest = highest.min(each - 1);
+    (lowest <= highest).then_some([word(lowest), word(highest)])
+}
+
+/// The fewest ticks from the end of a job to the start of another task's.
+fn ticks_between(plan: &Plan, sender: u32, receiver: u32) -> Option<i64> {
+    let jobs = 0..plan.jobs(sender).min(2_048);
+    let ticks = jobs.filter_map(|k| {
+        let (_, end) = job_span(plan, sender, k)?;
+        let (start, _) = job_span(plan, receiver, k)?;
+        Some(start - end)
     });
-    Some(taken.max()? + wide(plan.precision))
+    ticks.min()
 }

@@ -231,15 +231,16 @@ impl<'a> Messages<'a> {
         self.plan.frames.iter().position(is_it)
     }
 
-    /// From the sender's start to the receiver's end it is at most E.
+    /// From the sender's start to the receiver's end it is at most E, where 0
+    /// stands for the receiver's deadline.
     fn ask_latency(&self, reading: &Reading, message: Message, report: &mut Report) {
         let (sent, read) = (reading.start(message.sender), reading.end(message.receiver));
         let (Some(sent), Some(read)) = (sent, read) else {
             return;
         };
-        let [sender, _, latency, ..] = self.plan.streams[message.row];
-        let latency = match latency {
-            0 => self.plan.period(sender),
+        let [_, receiver, written, ..] = self.plan.streams[message.row];
+        let latency = match written {
+            0 => self.plan.deadline(receiver),
             given => given,
         };
         let (start, end) = (self.time.begin(sent), self.time.end(read));
@@ -251,6 +252,9 @@ impl<'a> Messages<'a> {
         });
         if taken == i128::from(latency) {
             report.tally.count(Fact::EndedAtLatency);
+            if written == 0 {
+                report.tally.count(Fact::EndedAtDeadline);
+            }
         }
         if start < 0 {
             report.tally.count(Fact::SentBelowZero);
@@ -258,16 +262,16 @@ impl<'a> Messages<'a> {
     }
 
     /// From the first task's start to the last one's end it is at most the
-    /// limit, in every job of every cycle. A chain of tasks that there are
+    /// limit, or the last one's deadline, in every job of every cycle. A chain of tasks that there are
     /// not, or that have not equally many jobs, is nothing to be asked of.
     fn ask_chain(&self, reading: &Reading, row: usize, report: &mut Report) {
-        let [first, last, limit, ..] = self.plan.chains[row];
+        let [first, last, written, ..] = self.plan.chains[row];
         let exists = |task: u32| (task as usize) < self.plan.tasks.len();
         if !exists(first) || !exists(last) || self.plan.jobs(first) != self.plan.jobs(last) {
             return;
         }
-        let limit = match limit {
-            0 => self.plan.period(first),
+        let limit = match written {
+            0 => self.plan.deadline(last),
             given => given,
         };
         for last in reading.ids(last, reading.cycles()) {
@@ -293,6 +297,9 @@ impl<'a> Messages<'a> {
             });
             if taken == i128::from(limit) {
                 report.tally.count(Fact::ChainEndedAtLimit);
+                if written == 0 {
+                    report.tally.count(Fact::ChainEndedAtDeadline);
+                }
             }
             if self.plan.node_of_task(first) == self.plan.node_of_task(last.task) {
                 report.tally.count(Fact::ChainOnOneNode);

@@ -12,6 +12,7 @@ pub enum Dial {
     Budget(usize),
     PieceStart(usize),
     PieceLength(usize),
+    Deadline(usize),
     Delay(usize),
     Latency(usize),
     /// Turned on to where a frame takes more or fewer ticks.
@@ -51,6 +52,7 @@ fn dials(plan: &Plan) -> Vec<Dial> {
     dials.extend((0..tasks).map(Dial::Budget));
     dials.extend((0..pieces).map(Dial::PieceStart));
     dials.extend((0..pieces).map(Dial::PieceLength));
+    dials.extend((0..tasks).map(Dial::Deadline));
     dials.extend((0..links).map(Dial::Delay));
     dials.extend((0..streams).map(Dial::Latency));
     dials.extend((0..streams).map(Dial::Payload));
@@ -110,10 +112,11 @@ impl Dial {
             Dial::Budget(row) => &mut plan.tasks[row][3],
             Dial::PieceStart(row) => &mut plan.pieces[row][2],
             Dial::PieceLength(row) => &mut plan.pieces[row][3],
+            Dial::Deadline(row) => &mut plan.tasks[row][4],
             Dial::Delay(row) => &mut plan.links[row][2],
             Dial::Latency(row) => {
                 if plan.streams[row][2] == 0 {
-                    plan.streams[row][2] = plan.period(plan.streams[row][0]);
+                    plan.streams[row][2] = plan.deadline(plan.streams[row][1]);
                 }
                 &mut plan.streams[row][2]
             }
@@ -122,7 +125,7 @@ impl Dial {
             Dial::FrameStart(row) => &mut plan.frames[row][4],
             Dial::Limit(row) => {
                 if plan.chains[row][2] == 0 {
-                    plan.chains[row][2] = plan.period(plan.chains[row][0]);
+                    plan.chains[row][2] = plan.deadline(plan.chains[row][1]);
                 }
                 &mut plan.chains[row][2]
             }

@@ -79,16 +79,18 @@ pub enum Fact {
     StartedAtArrival,
     ReceiverEnded,
     EndedAtLatency,
+    EndedAtDeadline,
     SentBelowZero,
     ChainEnded,
     ChainEndedAtLimit,
+    ChainEndedAtDeadline,
     ChainOnOneNode,
     HoldOver,
     HoldOpen,
     HoldShared,
 }
 
-pub const FACTS: [(Fact, &str); 21] = [
+pub const FACTS: [(Fact, &str); 23] = [
     (Fact::GaveZero, "calls that gave 0"),
     (Fact::GaveEnd, "calls that gave 28"),
     (Fact::Shown, "moves that showed their table's entry"),
@@ -103,11 +105,19 @@ pub const FACTS: [(Fact, &str); 21] = [
     (Fact::StartedAtArrival, "  of these at the very arrival"),
     (Fact::ReceiverEnded, "receivers ended within E"),
     (Fact::EndedAtLatency, "  of these exactly E after"),
+    (
+        Fact::EndedAtDeadline,
+        "    of these by the deadline, E being 0",
+    ),
     (Fact::SentBelowZero, "  of these sent before true time 0"),
     (Fact::ChainEnded, "chains ended within their limit"),
     (
         Fact::ChainEndedAtLimit,
         "  of these exactly the limit after",
+    ),
+    (
+        Fact::ChainEndedAtDeadline,
+        "    of these by the deadline, the limit being 0",
     ),
     (
         Fact::ChainOnOneNode,

@@ -4,9 +4,9 @@ use super::drive::Case;
 use super::{edges, run_unchecked, unchecked, Choice, Claim, Clocks, Edge, Failure, Settings};
 use crate::check::check;
 use crate::generate;
-use crate::image::{Buffer, Plan};
+use crate::image::{row_of, Buffer, Plan, CHAIN, ROW_BOUNDS};
 use crate::jobs::Jobs;
-use crate::mutate::aim;
+use crate::mutate::{aim, write_0};
 use crate::rng::Rng;
 
 /// The questions that are broken.
@@ -31,6 +31,8 @@ pub struct Noticed {
     pub noticed: u64,
     /// Of these, so many with all clocks equal.
     pub with_equal_clocks: u64,
+    /// Of these, so many where what is passed is an E or a limit of 0.
+    pub of_0: u64,
     /// So many break no claim, for the reason that `only_shared_tasks` or
     /// `only_one_clock` gives.
     pub harmless: u64,
@@ -49,19 +51,43 @@ pub struct Survey {
 pub fn survey(settings: &Settings) -> Result<Survey, Failure> {
     let mut survey = Survey::default();
     for (number, mut rng) in settings.cases() {
-        let plan = if rng.chance(30) {
+        let mut plan = if rng.chance(30) {
             generate::shared_buffer(&mut rng)
         } else {
             generate::tiny(&mut rng)
         };
+        put_0(number, &mut plan);
         survey_edges(number, &plan, &mut survey.by_a_tick, &mut rng)?;
         survey_aims(number, &plan, &mut survey.by_aim, &mut rng)?;
     }
     Ok(survey)
 }
 
+/// Whether in a plan an E or a limit of 0 is to be passed by a tick.
+fn prefers_0(number: u64) -> bool {
+    number % 4 < 2
+}
+
+/// Gives such a plan an E or a limit of 0 wherever it is kept, or chains with a
+/// limit of 0 in place of every E of 0.
+fn put_0(number: u64, plan: &mut Plan) {
+    if !prefers_0(number) {
+        return;
+    }
+    write_0(plan);
+    if number % 2 == 1 {
+        for [sender, receiver, latency, ..] in &mut plan.streams {
+            if *latency == 0 && plan.chains.len() < ROW_BOUNDS[CHAIN as usize - 1].1 as usize {
+                plan.chains.push(row_of([*sender, *receiver, 0]));
+                *latency = 1_000_000;
+            }
+        }
+    }
+}
+
 /// One plan broken by a tick for each question, where there is one: one that
-/// is not harmless, where there is such.
+/// is not harmless, where there is such, and of some plans one where an E or a
+/// limit of 0 is passed.
 fn survey_edges(
     number: u64,
     plan: &Plan,
@@ -71,8 +97,12 @@ fn survey_edges(
     let edges = edges(plan, rng);
     for (question, found) in QUESTIONS.into_iter().zip(found) {
         let of_question = edges.iter().filter(|edge| edge.question == question);
-        let is_harmless = |edge: &&Edge| question == 31 && only_one_clock(&edge.broken);
-        if let Some(edge) = of_question.min_by_key(is_harmless) {
+        let is_worse = |edge: &&Edge| {
+            let is_harmless = question == 31 && only_one_clock(&edge.broken);
+            let is_written = prefers_0(number) && !passes_0(&edge.broken);
+            (is_harmless, is_written)
+        };
+        if let Some(edge) = of_question.min_by_key(is_worse) {
             let kept = Case::new(number, &edge.kept, rng);
             let (_, run) = run_unchecked(kept.plan);
             kept.require_none(&unchecked(kept.plan, &kept.choices), Some(&run))?;
@@ -119,6 +149,7 @@ fn run_broken(case: &Case, question: u32, found: &mut Noticed) -> Result<(), Fai
         found.noticed += 1;
         let equal = [Choice::of(case.plan, Clocks::equal(case.plan))];
         found.with_equal_clocks += u64::from(unchecked(case.plan, &equal).has(guarded));
+        found.of_0 += u64::from(passes_0(case.plan));
     } else if question == 24 && only_shared_tasks(case.plan)
         || question == 31 && only_one_clock(case.plan)
     {
@@ -129,6 +160,17 @@ fn run_broken(case: &Case, question: u32, found: &mut Noticed) -> Result<(), Fai
         return Err(case.failure(Some(&run), what));
     }
     Ok(())
+}
+
+/// Whether the row that is refused has an E or a limit of 0.
+fn passes_0(plan: &Plan) -> bool {
+    let answer = check(&plan.encode());
+    let row = answer.row as usize;
+    match answer.number {
+        21 => plan.streams[row][2] == 0,
+        31 => plan.chains[row][2] == 0,
+        _ => false,
+    }
 }
 
 /// Whether rows of one buffer clash only where they have the same two tasks,
@@ -172,7 +214,7 @@ pub fn only_one_clock(plan: &Plan) -> bool {
     plan.chains.iter().all(|&[first, last, limit, ..]| {
         let one_node = plan.node_of_task(first) == plan.node_of_task(last);
         let limit = match limit {
-            0 => plan.period(first),
+            0 => plan.deadline(last),
             given => given,
         };
         let ahead = if one_node { 0 } else { plan.precision };

@@ -1,4 +1,4 @@
-//! Cases A and B of the plan paper, and one with a shared buffer.
+//! Cases A and B of the plan paper, and more that are made of them.
 
 // Each test file takes what it needs.
 #![allow(dead_code)]
@@ -43,6 +43,31 @@ pub fn case_chain() -> Plan {
     plan.pieces.push(row_of([2, 0, 14, 4]));
     plan.buffers = rows_of(&[[5, 1, 2]]);
     plan.chains = rows_of(&[[0, 2, 17]]);
+    plan
+}
+
+/// Case B with P = 3 and an E of 0 that is exactly kept: the receiver's piece is
+/// 12 to 16, its D is 16 - 2 + P, and the sender's is its last end.
+pub fn case_deadline() -> Plan {
+    let mut plan = case_b();
+    plan.precision = 3;
+    plan.pieces[1][2] = 12;
+    plan.streams[0][2] = 0;
+    (plan.tasks[0][4], plan.tasks[1][4]) = (6, 17);
+    plan
+}
+
+/// The same with a cycle of 30 ticks, a third task that reads the receiver's
+/// buffer from 16 to 20, and a chain to it that is exactly kept by its D, 21.
+pub fn case_chain_deadline() -> Plan {
+    let mut plan = case_deadline();
+    plan.cycle = 30;
+    plan.tasks.push(row_of([1, 3, 30, 3, 21]));
+    plan.tasks.iter_mut().for_each(|task| task[2] = 30);
+    plan.windows.iter_mut().for_each(|window| window[2] = 30);
+    plan.pieces.push(row_of([2, 0, 16, 4]));
+    plan.buffers = rows_of(&[[5, 1, 2]]);
+    plan.chains = rows_of(&[[0, 2, 0]]);
     plan
 }
 

@@ -1,5 +1,6 @@
 """Chains as lines: through the first task's job, each message of the path and its reader's job, to the last task's end."""
-from ..chains import path, stretches
+from ..chains import path
+from ..limits import limit_of, stretches
 from .arrows import in_view, point
 from .style import SMALL, fitting
 
@@ -19,7 +20,7 @@ def draw_chains(scene):
 def chain_lines(scene, chain):
     """(marked, job, stops) for each job of a chain whose path is there, stops as (first tick, last tick, y)."""
     way = path(scene.plan, chain)
-    for job in stretches(scene.plan, scene.meaning, chain) if way else ():
+    for job in stretches(scene.meaning, limit_of(scene.plan, "chain", chain)) if way else ():
         if job.ticks is not None:
             yield scene.marks.has("chain", chain), job, list(_stops(scene, way, job))
 
@@ -62,7 +63,7 @@ def _buffer_stops(scene, leg, job):
 
 
 def _height(lane, job, track=0):
-    return lane.block(track) + lane.block_height - INSET - APART * (job.chain % SIDES)
+    return lane.block(track) + lane.block_height - INSET - APART * (job.limit.row % SIDES)
 
 
 def _draw_line(scene, marked, job, stops, faint):
@@ -71,8 +72,8 @@ def _draw_line(scene, marked, job, stops, faint):
     parts = [ends for ends in zip(points, points[1:]) if in_view(scene.scale, ends)]
     if not parts:
         return
-    name = f"{scene.plan.name('chain', job.chain)}.{job.job}"
-    ticks = (f"{name}: {job.ticks} of {job.limit} ticks", f"{name}: {job.ticks}/{job.limit}", name)
+    name, limit = f"{scene.plan.name('chain', job.limit.row)}.{job.job}", job.limit.ticks
+    ticks = (f"{name}: {job.ticks} of {limit} ticks", f"{name}: {job.ticks}/{limit}", name)
     steps = "".join(_step(scene.scale, ends) for ends in parts)
     scene.svg.path("c am" if marked else "c faint" if faint else "c", steps, f"chain {ticks[0]}")
     scene.marks_drawn += marked
