@@ -47,7 +47,7 @@ all-defaults s =
       chain-stricter = λ e x h z.
           let g = chain-facts s e in
           rw (leads-period s (facts s e) (g .chainPath x h)) (deadline-le s e (chain s x .limit) (chain s x .last) (g .chainTasks x h .1) z);
-      stream-in-time = λ fits m k g h z. by-slack s fits (stream s m .sender) (stream s m .receiver) k (stream s m .latency) (g .0) h z;
+      stream-in-time = λ fits m k e h z. by-slack s fits (stream s m .sender) (stream s m .receiver) k (stream s m .latency) e h z;
       chain-in-time = λ fits x e z.
           let a = chain s x .first in let b = chain s x .last in let word = chain s x .limit in
           (λ g k h. by-slack s fits a b k word e h z .0 (g k h), λ g k h. by-slack s fits a b k word e h z .1 (g k h));

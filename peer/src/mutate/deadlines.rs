@@ -3,18 +3,14 @@
 
 use std::ops::RangeInclusive;
 
-use super::{job_span, wide, word};
+use super::{both_spans, job_span, wide, word};
 use crate::image::Plan;
 use crate::rng::Rng;
 
 /// The ticks from the first task's start to the last one's end, job by job.
 pub fn taken(plan: &Plan, first: u32, last: u32) -> Vec<i64> {
-    let jobs = 0..plan.jobs(first).min(2_048);
-    let ticks = jobs.filter_map(|k| {
-        let (start, _) = job_span(plan, first, k)?;
-        let (_, end) = job_span(plan, last, k)?;
-        Some(end - start)
-    });
+    let spans = both_spans(plan, first, last);
+    let ticks = spans.map(|[(start, _), (_, end)]| end - start);
     ticks.collect()
 }
 

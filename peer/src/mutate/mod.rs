@@ -285,3 +285,9 @@ fn job_span(plan: &Plan, task: u32, k: u32) -> Option<(i64, i64)> {
         .max()?;
     Some((first, last))
 }
+
+/// The spans of two tasks' jobs of one number, where both have pieces.
+fn both_spans(plan: &Plan, first: u32, last: u32) -> impl Iterator<Item = [(i64, i64); 2]> + '_ {
+    let jobs = 0..plan.jobs(first).min(2_048);
+    jobs.filter_map(move |k| Some([job_span(plan, first, k)?, job_span(plan, last, k)?]))
+}

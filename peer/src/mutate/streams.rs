@@ -1,6 +1,6 @@
 //! Changes aimed at questions 14 to 21.
 
-use super::{any_row, any_where, chains, deadlines, insert, job_span, wide, word};
+use super::{any_row, any_where, both_spans, chains, deadlines, insert, job_span, wide, word};
 use crate::image::{row_of, Frame, Plan, FRAME, LINK, ROW_BOUNDS};
 use crate::rng::Rng;
 
@@ -456,11 +456,7 @@ fn precisions_alone(plan: &Plan, row: usize) -> Option<[u32; 2]> {
 
 /// The fewest ticks from the end of a job to the start of another task's.
 fn ticks_between(plan: &Plan, sender: u32, receiver: u32) -> Option<i64> {
-    let jobs = 0..plan.jobs(sender).min(2_048);
-    let ticks = jobs.filter_map(|k| {
-        let (_, end) = job_span(plan, sender, k)?;
-        let (start, _) = job_span(plan, receiver, k)?;
-        Some(start - end)
-    });
+    let spans = both_spans(plan, sender, receiver);
+    let ticks = spans.map(|[(_, end), (start, _)]| start - end);
     ticks.min()
 }

@@ -262,8 +262,9 @@ impl<'a> Messages<'a> {
     }
 
     /// From the first task's start to the last one's end it is at most the
-    /// limit, or the last one's deadline, in every job of every cycle. A chain of tasks that there are
-    /// not, or that have not equally many jobs, is nothing to be asked of.
+    /// limit, where 0 stands for the last one's deadline, in every job of every
+    /// cycle. A chain of tasks that there are not, or that have not equally
+    /// many jobs, is nothing to be asked of.
     fn ask_chain(&self, reading: &Reading, row: usize, report: &mut Report) {
         let [first, last, written, ..] = self.plan.chains[row];
         let exists = |task: u32| (task as usize) < self.plan.tasks.len();
