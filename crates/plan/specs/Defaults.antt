@@ -18,7 +18,8 @@ pub record Default (s : List ℕ) : Type 0 where
   pub stream-other : (m : ℕ) → 1 ≤ stream s m .latency → limit s m ≡ stream s m .latency
   pub chain-0 : (x : ℕ) → chain s x .limit ≡ 0 → chainLimit s x ≡ task s (chain s x .last) .deadline
   pub chain-other : (x : ℕ) → 1 ≤ chain s x .limit → chainLimit s x ≡ chain s x .limit
-  -- In an accepted plan it is no more than the period, which it stood for before: no plan is accepted that was refused then.
+  -- In an accepted plan it is no more than the period, which it stood for before. Since no other question changed, no plan is accepted that was refused then:
+  -- that follows from these two, and is not stated itself, as the former meaning is not defined here.
   pub stream-stricter : answerOf s ≡ accepted → (m : ℕ) → m < rows s Streams → stream s m .latency ≡ 0 → limit s m ≤ task s (stream s m .sender) .period
   pub chain-stricter : answerOf s ≡ accepted → (x : ℕ) → x < rows s Chains → chain s x .limit ≡ 0 → chainLimit s x ≤ task s (chain s x .first) .period
   -- Where 10 says yes of all pieces, and sender and receiver, or first and last task, have one period, 21 and 31 say yes of a 0 exactly where P is at most
