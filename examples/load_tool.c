@@ -4,7 +4,8 @@
  *     load_tool [-c CYCLE] [-n CYCLES] [FILE]
  *
  * Reads a plan image from FILE or standard input, checks it and prints the
- * answer as `number table row`. A refused plan ends there, with status 1.
+ * answer as `number table row`. A refused plan ends there, with the answer in
+ * words on a second line and status 1.
  * For an accepted one it builds every lane's table into one row of words,
  * starts every lane in cycle CYCLE (0), steps all lanes through CYCLES (2)
  * cycles, and prints `cycle tick lane kind row` wherever a lane shows
@@ -146,6 +147,28 @@ static struct tables load(const struct bytes *image, uint64_t cycle)
     return t;
 }
 
+/* Prints an answer in words, on a line of its own. */
+static void print_line(uint32_t number, uint32_t table, uint32_t row)
+{
+    uint8_t line[RD_LINE_BYTES];
+    uint32_t length = rd_line(number, table, row, line, sizeof line);
+
+    printf("%.*s\n", (int)length, (const char *)line);
+}
+
+/* Prints the answer, and a refusal in words too. */
+static void print_answer(uint64_t answer)
+{
+    uint32_t number = rd_answer_number(answer);
+    uint32_t table = rd_answer_table(answer);
+    uint32_t row = rd_answer_row(answer);
+
+    printf("%" PRIu32 " %" PRIu32 " %" PRIu32 "\n", number, table, row);
+    if (answer != 0) {
+        print_line(number, table, row);
+    }
+}
+
 /* Steps all lanes once, and prints those that show something else than before, or all. Gives the step's number. */
 static uint32_t step(struct tables *t, uint8_t *before, int all)
 {
@@ -185,6 +208,7 @@ static void run(struct tables *t, uint64_t cycles)
 
             if (number != 0) {
                 printf("step refused: %" PRIu32 "\n", number);
+                print_line(number, 0, 0);
                 free(before);
                 return;
             }
@@ -237,7 +261,7 @@ int main(int argc, char **argv)
     }
     image = read_all(from);
     answer = rd_check(image.at, image.length);
-    printf("%" PRIu32 " %" PRIu32 " %" PRIu32 "\n", rd_answer_number(answer), rd_answer_table(answer), rd_answer_row(answer));
+    print_answer(answer);
     if (answer == 0) {
         t = load(&image, cycle);
         run(&t, cycles);

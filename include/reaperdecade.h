@@ -1,6 +1,7 @@
 /*
- * reaperdecade.h - check tunnel plans, build their dispatch tables, step them;
- * tell when their frames arrive; edit their pieces in drafts.
+ * reaperdecade.h - check tunnel plans, say the answer in words, build their
+ * dispatch tables, step them; tell when their frames arrive; edit their pieces
+ * in drafts.
  *
  * The functions of libreaperdecade.a, for C99 and later and for C++. Each of
  * them is proved to meet its contract: its result and every byte that it
@@ -19,7 +20,8 @@
  * and is never written.
  *
  * Refusals. Input of any length and any content is taken. A call that refuses
- * it says why by its number and changes no byte.
+ * it says why by its number and changes no byte. (rd_line alone gives no number
+ * but a length, and 0 where it writes nothing.)
  */
 #ifndef REAPERDECADE_H
 #define REAPERDECADE_H
@@ -60,6 +62,41 @@ static inline uint32_t rd_answer_row(uint64_t answer)
  * Gives the answer: 0 where every question is answered yes.
  */
 uint64_t rd_check(const uint8_t *image, size_t image_len);
+
+/*
+ * Says an answer in words, for a screen: what its number says, then the number
+ * and the place in brackets, for instance
+ *
+ *     two pieces on one core overlap (answer 12, piece 7)
+ *     the image's length is out of bounds (answer 1, table 0, row 0)
+ *     accepted, every question is answered yes (answer 0, table 0, row 0)
+ *
+ * number, table, row   any. A table without a name, 0 among them, stands as
+ *                      its number.
+ * line                 line_len bytes.
+ *
+ * Gives the line's length, 1 to 95, and writes the line without a newline and
+ * without a zero; later bytes are left as they were. Gives 0, which is no
+ * success here, and writes nothing where line_len is less than the line's
+ * length.
+ * All bytes of a line are printable ASCII, 32 to 126. Different answers have
+ * different lines, and no line of another number than 0 begins with
+ * `accepted`. Programs go by the numbers: words may change with a version.
+ *
+ * With an answer:
+ *
+ *     uint8_t line[RD_LINE_BYTES];
+ *     uint32_t length = rd_line(rd_answer_number(answer), rd_answer_table(answer),
+ *                               rd_answer_row(answer), line, sizeof line);
+ *
+ *     printf("%.*s\n", (int)length, (const char *)line);
+ *
+ * With a refusal's number alone, as of rd_step, table and row are 0.
+ */
+uint32_t rd_line(uint32_t number, uint32_t table, uint32_t row, uint8_t *line, size_t line_len);
+
+/* So many bytes hold every line and a newline, or a zero, after it. */
+#define RD_LINE_BYTES 96
 
 /*
  * Builds the dispatch table of one lane of a plan: the check's questions again,

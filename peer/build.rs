@@ -8,7 +8,7 @@
 use std::path::Path;
 use std::process::Command;
 
-const FUNCTIONS: [&str; 14] = [
+const FUNCTIONS: [&str; 15] = [
     "rd_check",
     "rd_build",
     "rd_build_all",
@@ -23,6 +23,7 @@ const FUNCTIONS: [&str; 14] = [
     "rd_draft_job",
     "rd_draft_core",
     "rd_draft_place",
+    "rd_line",
 ];
 
 fn main() {

@@ -3,7 +3,7 @@
 use std::fmt;
 
 /// The number of a question, a table and a row; all zero when accepted.
-#[derive(Clone, Copy, Debug, PartialEq, Eq)]
+#[derive(Clone, Copy, Debug, PartialEq, Eq, Hash)]
 pub struct Answer {
     pub number: u32,
     pub table: u32,

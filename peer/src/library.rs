@@ -1,8 +1,10 @@
 //! The library's C functions, over slices. There where RD_LIB_DIR is set.
 
+use crate::answer::Answer;
 use crate::boundary::Boundary;
 use crate::drafts::Drafts;
 use crate::image::Piece;
+use crate::lines::Lines;
 
 extern "C" {
     fn rd_check(image: *const u8, image_len: usize) -> u64;
@@ -39,6 +41,7 @@ extern "C" {
     fn rd_draft_job(words: *const u32, n: usize, task: u32, job: u32) -> u64;
     fn rd_draft_core(words: *const u32, n: usize, core: u32) -> u64;
     fn rd_draft_place(words: *const u32, n: usize, place: u32, piece: *mut u32, m: usize) -> u32;
+    fn rd_line(number: u32, table: u32, row: u32, line: *mut u8, line_len: usize) -> u32;
 }
 
 /// The library under test.
@@ -113,5 +116,13 @@ impl Drafts for Library {
     fn place(&self, words: &mut [u32], place: u32, piece: &mut [u32]) -> u32 {
         let (at, n) = (words.as_mut_ptr(), words.len());
         unsafe { rd_draft_place(at, n, place, piece.as_mut_ptr(), piece.len()) }
+    }
+}
+
+impl Lines for Library {
+    fn line(&self, answer: Answer, line: &mut [u8]) -> u32 {
+        let Answer { number, table, row } = answer;
+        let (at, length) = (line.as_mut_ptr(), line.len());
+        unsafe { rd_line(number, table, row, at, length) }
     }
 }

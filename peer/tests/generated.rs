@@ -72,14 +72,14 @@ fn full_plans_have_every_row() {
 }
 
 /// Three for each window and piece, two for each frame, and one more for each
-/// lane; the answer is a line besides.
+/// lane; the answer is two lines besides.
 #[test]
 fn no_plan_has_more_entries() {
     for seed in 0..10 {
         let text = report(&most_entries(&mut Rng::new(seed)).encode());
-        assert_eq!(text.lines().count(), 1 + 3 * (1024 + 2048) + 2 * 512 + 96);
+        assert_eq!(text.lines().count(), 2 + 3 * (1024 + 2048) + 2 * 512 + 96);
         let text = report(&longest_lane(&mut Rng::new(seed)).encode());
-        assert_eq!(text.lines().count(), 1 + 3 * (1024 + 2048) + 1);
+        assert_eq!(text.lines().count(), 2 + 3 * (1024 + 2048) + 1);
     }
 }
 

@@ -11,7 +11,7 @@ use cases::{case_a, case_b, case_chain, two_hops, two_rows};
 use peer::generate::{full, rich, small_rich, tiny};
 use peer::image::{row_of, rows_of, Frame, Piece, Window};
 use peer::mutate::{aim, mutant};
-use peer::{asked_before, build, check, naive, report, Answer, Plan, Rng, QUESTIONS};
+use peer::{asked_before, build, check, line, naive, report, Answer, Plan, Rng, QUESTIONS};
 
 #[track_caller]
 fn expect(plan: &Plan, number: u32, table: u32, row: u32) {
@@ -19,7 +19,7 @@ fn expect(plan: &Plan, number: u32, table: u32, row: u32) {
     assert_eq!(check(&image), answer);
     assert_eq!(naive::check(&image), answer);
     if !answer.is_accepted() {
-        assert_eq!(report(&image), format!("{answer}\n"));
+        assert_eq!(report(&image), format!("{answer}\n{}\n", line(answer)));
         let mut words = [7; 20];
         assert_eq!(build(&image, 99, &mut words), answer);
         assert_eq!(words, [7; 20]);

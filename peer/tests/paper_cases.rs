@@ -9,7 +9,9 @@ use peer::image::{
     WORD,
 };
 use peer::naive::Naive;
-use peer::{arrivals, build, check, naive, report, start, step, step_all, Answer, Plan, State};
+use peer::{
+    arrivals, build, check, line, naive, report, start, step, step_all, Answer, Plan, State,
+};
 
 #[track_caller]
 fn expect(image: &[u8], number: u32, table: u32, row: u32) {
@@ -17,7 +19,7 @@ fn expect(image: &[u8], number: u32, table: u32, row: u32) {
     assert_eq!(check(image), answer);
     assert_eq!(naive::check(image), answer);
     if !answer.is_accepted() {
-        assert_eq!(report(image), format!("{answer}\n"));
+        assert_eq!(report(image), format!("{answer}\n{}\n", line(answer)));
     }
 }
 
@@ -31,8 +33,19 @@ fn changed(mut plan: Plan, change: impl Fn(&mut Plan), number: u32, table: u32, 
 fn a_prints_whole() {
     let image = case_a().encode();
     expect(&image, 0, 0, 0);
-    let text = "0 0 0\n0 0 1 0\n0 2 3 0\n0 3 4 0\n0 6 2 0\n";
+    let words = "answer 0: table 0, row 0\n";
+    let text = format!("0 0 0\n{words}0 0 1 0\n0 2 3 0\n0 3 4 0\n0 6 2 0\n");
     assert_eq!(report(&image), text);
+}
+
+/// Request 9: a refusal prints two lines.
+#[test]
+fn refusals_in_words() {
+    let mut late = case_a();
+    late.tasks[0][4] = 5;
+    let text = report(&late.encode());
+    assert_eq!(text, "10 5 0\nanswer 10: piece, row 0\n");
+    assert_eq!(report(&[]), "1 0 0\nanswer 1: table 0, row 0\n");
 }
 
 #[test]
@@ -80,9 +93,9 @@ fn b_has_three_lanes() {
     let receiver = ["1 0 1 1", "1 2 2 1", "1 10 3 1", "1 11 4 1", "1 14 2 1"];
     let link = ["2 0 0 0", "2 6 5 0", "2 8 0 0"];
     assert_eq!(lines[0], "0 0 0");
-    assert_eq!(lines[1..5], sender);
-    assert_eq!(lines[5..10], receiver);
-    assert_eq!(lines[10..], link);
+    assert_eq!(lines[2..6], sender);
+    assert_eq!(lines[6..11], receiver);
+    assert_eq!(lines[11..], link);
 }
 
 /// The table of case A's only lane.
@@ -301,14 +314,16 @@ fn windows_continue_whatever_the_other_is() {
 #[test]
 fn windows_that_continue_show_no_switch() {
     let text = report(&a_with(&[[0, 0, 3], [0, 3, 5], [1, 8, 2]], 3).encode());
-    assert_eq!(text, "7 4 2\n");
+    assert!(text.starts_with("7 4 2\n"));
     let text = report(&a_with(&[[0, 0, 3], [0, 3, 4], [1, 7, 3]], 3).encode());
-    let lines = ["0 0 0", "0 0 1 0", "0 2 2 0", "0 3 3 0", "0 4 4 0"];
-    let more = ["0 7 1 2", "0 9 2 2"];
-    assert_eq!(text, [&lines[..], &more, &[""]].concat().join("\n"));
+    let entries = ["0 0 1 0", "0 2 2 0", "0 3 3 0", "0 4 4 0", "0 7 1 2"];
+    assert!(text
+        .lines()
+        .skip(2)
+        .eq(entries.into_iter().chain(["0 9 2 2"])));
     let text = report(&a_with(&[[0, 0, 5], [0, 5, 1], [0, 6, 4]], 6).encode());
-    let lines = ["0 0 0", "0 0 1 0", "0 2 2 0", "0 5 2 1", "0 6 3 0"];
-    assert_eq!(text, [&lines[..], &["0 7 4 0", ""]].concat().join("\n"));
+    let entries = ["0 0 1 0", "0 2 2 0", "0 5 2 1", "0 6 3 0", "0 7 4 0"];
+    assert!(text.lines().skip(2).eq(entries));
 }
 
 /// Request 2: ports of different speed. Case B has L = 2 and no tick to spare.

@@ -7,9 +7,9 @@ mod ways;
 use std::path::PathBuf;
 use std::process::{Command, Output};
 
-use peer::image::LONGEST;
+use peer::image::{LONGEST, TABLES};
 use peer::texts::{image, run, Met, Process, Settings};
-use peer::{report, QUESTIONS};
+use peer::{kind, line, report, Answer, QUESTIONS};
 
 const ALL: Settings = Settings {
     seed: 1,
@@ -37,16 +37,18 @@ fn too_few_images_are_noticed() {
         met.missing()
     };
     let of_none = missing(0);
-    assert_eq!(of_none.len(), QUESTIONS.len() + 4 + 4 + 6 + 3);
+    assert_eq!(of_none.len(), QUESTIONS.len() + TABLES + 4 + 4 + 6 + 3);
     for what in [
         "a refusal by question 1",
         "a refusal by question 32",
+        "a refused core",
+        "a refused chain",
         "a refused row of 4 digits",
         "a shown row of 2 digits",
         "a first tick of 6 digits",
         "a lane with 9217 entries",
         "a text with 96 lanes",
-        "a text of 10337 lines",
+        "a text of 10338 lines",
     ] {
         assert!(of_none.contains(&what.to_string()), "{what}: {of_none:?}");
     }
@@ -56,11 +58,12 @@ fn too_few_images_are_noticed() {
 #[test]
 fn what_stands_in_a_text() {
     let mut met = Met::default();
-    met.meet("0 0 0\n0 0 0 0\n0 12 1 3\n1 0 5 1234\n");
-    met.meet("10 5 104\n");
+    met.meet("0 0 0\nyes\n0 0 0 0\n0 12 1 3\n1 0 5 1234\n");
+    met.meet("10 5 104\nno\n");
     assert_eq!((met.answers.of(0), met.answers.of(10)), (1, 1));
-    assert_eq!((met.most_lines, met.most_bytes), (4, 34));
+    assert_eq!((met.most_lines, met.most_bytes), (5, 38));
     assert_eq!((met.most_lanes, met.most_entries), (2, 2));
+    assert!(met.refused_tables.iter().eq(&[5]));
     assert_eq!(met.refused_rows.highest, 104);
     assert_eq!(met.shown_rows.highest, 1_234);
     assert_eq!(met.first_ticks.highest, 12);
@@ -74,9 +77,10 @@ ways! {
     /// Ways to be wrong.
     enum Wrong { RowsModulo(u32), RefusedRowsModulo(u32), ShownRowsModulo(u32), TicksModulo(u32) }
 
-    const TEXTS: 14 = {
+    const TEXTS: 15 = {
         PrintsNothing,
         FirstLineOnly,
+        FirstTwoLinesOnly,
         FirstLineTwice,
         AcceptsAll,
         AcceptsAnyLength,
@@ -98,6 +102,57 @@ ways! {
     };
 
     const FAILURES: 2 = { FailsIfRefused, FailsIfEmpty };
+
+    /// What is wrong is the line in words, or where it stands.
+    const IN_WORDS: 9 = {
+        WordsTwice,
+        WordsFirst,
+        WordsLast,
+        WordsAfterRefusalsOnly,
+        WordsAfterAcceptancesOnly,
+        WordsWithoutNewline,
+        WordsWithoutNewlineIfRefused,
+        WordsForTheNextRow,
+        WordsForAccepted,
+    };
+
+    const WORDS_BYTES: 12 = {
+        NoWords,
+        EmptyWords,
+        OneSpace,
+        WordsOf97Bytes,
+        WordsOf97BytesOnce,
+        WordsOf1000Bytes,
+        WordsWithByte127,
+        WordsWithTab,
+        WordsWithByteAbove127,
+        WordsWithByte0,
+        WordsWithReturn,
+        WordsInColour,
+    };
+
+    const WORDS_SAY: 20 = {
+        AnswerForWords,
+        SameWordsForAll,
+        WordsWithoutNumber,
+        WordsWithNumberModulo10,
+        WordsByLength,
+        WordsWithRowModulo1000,
+        WordsWithRowModulo256,
+        WordsWithoutRow,
+        WordsWithoutRow0,
+        WordsWithRowFrom1,
+        WordsWithRowInHex,
+        WordsWithRowInThousands,
+        WordsWithRowPadded,
+        WordsWithRowBehindNumber,
+        WordsWithNeighboursName,
+        WordsWithoutName,
+        WordsWithTableNumber,
+        WordsInSmallLetters,
+        WordsOfSeveral,
+        WordsWithoutTable0,
+    };
 }
 
 use Wrong::*;
@@ -108,7 +163,112 @@ fn wrong(way: Wrong, image: &[u8]) -> Result<Vec<u8>, String> {
     match way {
         FailsIfRefused if !text.starts_with("0 ") => Err("refused".to_string()),
         FailsIfEmpty if image.is_empty() => Err("empty".to_string()),
+        _ if IN_WORDS.contains(&way) => Ok(moved(way, &text).into_bytes()),
+        _ if WORDS_BYTES.contains(&way) => Ok(with_bytes(way, &text)),
+        _ if WORDS_SAY.contains(&way) => Ok(with_words(way, &text, image.len()).into_bytes()),
         _ => Ok(changed(way, &text).into_bytes()),
+    }
+}
+
+/// A text's first line, its second and all others, each with line ends.
+fn parts(text: &str) -> [&str; 3] {
+    let mut lines = text.splitn(3, '\n').map(str::len);
+    let mut next = || lines.next().expect("a text has two lines") + 1;
+    let (first, second) = (next(), next());
+    let (answer, others) = text.split_at(first);
+    let (words, entries) = others.split_at(second);
+    [answer, words, entries]
+}
+
+/// With the line in words elsewhere, or another one.
+fn moved(way: Wrong, text: &str) -> String {
+    let [answer, words, entries] = parts(text);
+    let (accepted, bare) = (answer == "0 0 0\n", words.trim_end());
+    let Answer { number, table, row } = answer_of(text);
+    match way {
+        WordsTwice => format!("{answer}{words}{words}{entries}"),
+        WordsFirst => format!("{words}{answer}{entries}"),
+        WordsLast if accepted => format!("{answer}{entries}{words}"),
+        WordsAfterRefusalsOnly if accepted => format!("{answer}{entries}"),
+        WordsAfterAcceptancesOnly if !accepted => answer.to_string(),
+        WordsWithoutNewline if accepted => format!("{answer}{bare}{entries}"),
+        WordsWithoutNewlineIfRefused if !accepted => format!("{answer}{bare}"),
+        WordsForTheNextRow if !accepted => {
+            format!("{answer}{}\n", line(Answer::at(number, table, row + 1)))
+        }
+        WordsForAccepted => format!("{answer}{}\n{entries}", line(Answer::ACCEPTED)),
+        _ => text.to_string(),
+    }
+}
+
+/// With other bytes for the line in words.
+fn with_bytes(way: Wrong, text: &str) -> Vec<u8> {
+    let [answer, words, entries] = parts(text);
+    let mut line = words.trim_end().as_bytes().to_vec();
+    match way {
+        NoWords => return format!("{answer}{entries}").into_bytes(),
+        EmptyWords => line.clear(),
+        OneSpace => line = vec![b' '],
+        WordsOf97Bytes => line.resize(96, b'.'),
+        WordsOf97BytesOnce if answer.starts_with("31 ") => line.resize(96, b'.'),
+        WordsOf1000Bytes => line.resize(999, b'.'),
+        WordsWithByte127 => line.push(127),
+        WordsWithTab => line.push(b'\t'),
+        WordsWithByteAbove127 => line.push(0xE9),
+        WordsWithByte0 => line.push(0),
+        WordsWithReturn => line.push(b'\r'),
+        WordsInColour => line.splice(..0, *b"\x1b[31m").for_each(drop),
+        _ => {}
+    }
+    line.push(b'\n');
+    [answer.as_bytes(), &line, entries.as_bytes()].concat()
+}
+
+/// With a line in words that says something else.
+fn with_words(way: Wrong, text: &str, length: usize) -> String {
+    let [answer, _, entries] = parts(text);
+    let line = words_of(way, answer_of(text), length);
+    format!("{answer}{line}\n{entries}")
+}
+
+fn words_of(way: Wrong, answer: Answer, length: usize) -> String {
+    let Answer { number, table, row } = answer;
+    let of = |number, table, row| line(Answer::at(number, table, row));
+    let right = line(answer);
+    let name = kind(table).unwrap_or("table");
+    let other_row = |told: String| right.replace(&format!("row {row}"), &format!("row {told}"));
+    match way {
+        AnswerForWords => answer.to_string(),
+        SameWordsForAll => "look it up in the manual".to_string(),
+        WordsWithoutNumber => right.replace(&format!("answer {number}: "), ""),
+        WordsWithNumberModulo10 => of(number % 10, table, row),
+        WordsByLength => format!("{right}, {length} bytes"),
+        WordsWithRowModulo1000 => of(number, table, row % 1_000),
+        WordsWithRowModulo256 => of(number, table, row % 256),
+        WordsWithoutRow => right.replace(&format!(", row {row}"), ""),
+        WordsWithoutRow0 if row == 0 => right.replace(", row 0", ""),
+        WordsWithRowFrom1 => of(number, table, row + 1),
+        WordsWithRowInHex => other_row(format!("{row:x}")),
+        WordsWithRowInThousands if row >= 1_000 => {
+            other_row(format!("{},{:03}", row / 1_000, row % 1_000))
+        }
+        WordsWithRowPadded => other_row(format!("{row:04}")),
+        WordsWithRowBehindNumber => format!("{name} {number}{row}"),
+        WordsWithNeighboursName if table > 0 => of(number, table % 10 + 1, row),
+        WordsWithoutName if table > 0 => format!("answer {number}: row {row}"),
+        WordsWithTableNumber => format!("answer {number}: table {table}, row {row}"),
+        WordsInSmallLetters => right.to_lowercase(),
+        WordsOfSeveral if table > 0 => right.replace(name, &format!("{name}s")),
+        WordsWithoutTable0 => right.replace("table 0, ", ""),
+        _ => right,
+    }
+}
+
+fn answer_of(text: &str) -> Answer {
+    let [answer, ..] = parts(text);
+    match words(answer.trim_end())[..] {
+        [number, table, row] => Answer::at(number, table, row),
+        _ => panic!("an answer has three words"),
     }
 }
 
@@ -124,19 +284,24 @@ fn taken(way: Wrong, image: &[u8]) -> &[u8] {
 }
 
 fn changed(way: Wrong, text: &str) -> String {
-    let mut lines = text.lines();
-    let answer = lines.next().expect("a text has a line");
+    let [first, in_words, entries] = parts(text);
+    let answer = first.trim_end();
     match way {
         PrintsNothing => String::new(),
-        FirstLineOnly => format!("{answer}\n"),
-        FirstLineTwice => format!("{answer}\n{text}"),
+        FirstLineOnly => first.to_string(),
+        FirstTwoLinesOnly => format!("{first}{in_words}"),
+        FirstLineTwice => format!("{first}{text}"),
         AcceptsAll => text.replacen(answer, "0 0 0", 1),
         AcceptsAnyLength => text.replacen("1 0 0\n", "0 0 0\n", 1),
         NoLastLineEnd => text.trim_end().to_string(),
         EmptyLineMore => format!("{text}\n"),
         AtMost65536Bytes => text[..text.len().min(65_536)].to_string(),
         AtMost10000Lines => text.split_inclusive('\n').take(10_000).collect(),
-        _ => joined(changed_answer(way, answer), changed_entries(way, lines)),
+        _ => {
+            let answer = joined(vec![changed_answer(way, answer)]);
+            let entries = joined(changed_entries(way, entries.lines()));
+            format!("{answer}{in_words}{entries}")
+        }
     }
 }
 
@@ -193,12 +358,12 @@ fn words(line: &str) -> Vec<u32> {
     line.split(' ').map(word).collect()
 }
 
-fn joined(answer: Vec<u32>, entries: Vec<Vec<u32>>) -> String {
+fn joined(lines: Vec<Vec<u32>>) -> String {
     let line = |words: Vec<u32>| {
         let words: Vec<String> = words.iter().map(u32::to_string).collect();
         words.join(" ") + "\n"
     };
-    std::iter::once(answer).chain(entries).map(line).collect()
+    lines.into_iter().map(line).collect()
 }
 
 #[test]
@@ -218,8 +383,30 @@ fn each_wrong_program_is_noticed() {
         .chain(INPUTS)
         .chain(FAILURES);
     for way in ways {
-        let found = run(&ALL, &|image| wrong(way, image));
-        assert!(found.is_err(), "{way:?} goes unnoticed");
+        told(way);
+    }
+}
+
+/// What is told of a wrong program.
+fn told(way: Wrong) -> String {
+    match run(&ALL, &|image| wrong(way, image)) {
+        Ok(_) => panic!("{way:?} goes unnoticed"),
+        Err(difference) => difference.to_string(),
+    }
+}
+
+/// A wrong line in words is noticed as such, and one in another place.
+#[test]
+fn each_wrong_line_in_words_is_noticed() {
+    for way in IN_WORDS.into_iter().chain(WORDS_BYTES).chain(WORDS_SAY) {
+        let told = told(way);
+        let line = match way {
+            WordsFirst => "line 1, ",
+            WordsTwice | WordsLast | WordsAfterRefusalsOnly => "line 3, ",
+            _ => "line 2, ",
+        };
+        println!("{way:?}: {told}");
+        assert!(told.contains(line), "{way:?}: {told}");
     }
 }
 
@@ -230,19 +417,39 @@ fn a_text_taken_apart_and_joined_is_right() {
     run(&settings, &|image| wrong(RowsModulo(u32::MAX), image)).expect("nothing is changed");
 }
 
+/// Its wording is the program's own affair.
+#[test]
+fn other_words_are_as_good() {
+    let other = |image: &[u8]| {
+        let text = report(image);
+        let [first, _, entries] = parts(&text);
+        let Answer { number, table, row } = answer_of(&text);
+        let rows = kind(table).map_or(format!("table {table}"), str::to_string);
+        let line = format!("[{rows} #{row}] see window, table 3 and piece {number}~");
+        Ok(format!("{first}{line}\n{entries}").into_bytes())
+    };
+    run(&ALL, &other).unwrap_or_else(|difference| panic!("{difference}"));
+    let longest = |image: &[u8]| {
+        let text = report(image);
+        let [first, words, entries] = parts(&text);
+        Ok(format!("{first}{:95}\n{entries}", words.trim_end()).into_bytes())
+    };
+    run(&ALL, &longest).unwrap_or_else(|difference| panic!("{difference}"));
+}
+
 #[test]
 fn a_difference_tells_where() {
-    let found = run(&ALL, &|image| wrong(FirstLineOnly, image));
+    let found = run(&ALL, &|image| wrong(FirstTwoLinesOnly, image));
     let difference = found.expect_err("accepted plans have lines");
     let told = difference.to_string();
     let (seed, number) = (difference.seed, difference.number);
     let image = image(seed, number);
     let text = report(&image);
-    let second = text.lines().nth(1).expect("an accepted plan's text");
+    let third = text.lines().nth(2).expect("an accepted plan's text");
     let expected = format!(
         "difference in image {number} of seed 1, {} bytes\n\
-         line 2, ours: \"{second}\\n\"\n\
-         line 2, theirs: no such line\n\
+         line 3, ours: \"{third}\\n\"\n\
+         line 3, theirs: no such line\n\
          the image is made again by: generate text 1 {number}\n",
         image.len()
     );
@@ -311,7 +518,21 @@ fn a_program_may_stop_reading() {
 #[test]
 fn wrong_processes_are_noticed() {
     let wrong = [
-        ("first-line-only", "\"$check\" | head -n 1", "no such line"),
+        (
+            "first-line-only",
+            "\"$check\" | head -n 1",
+            "line 2, theirs: no such line: it should be there",
+        ),
+        (
+            "first-two-lines-only",
+            "\"$check\" | head -n 2",
+            "line 3, theirs: no such line",
+        ),
+        (
+            "line-in-words-aside",
+            "\"$check\" | sed '2w /dev/stderr\n2d'",
+            "line 2, theirs: ",
+        ),
         (
             "reads-once",
             "dd bs=65536 count=1 2>/dev/null | \"$check\"",
@@ -319,7 +540,7 @@ fn wrong_processes_are_noticed() {
         ),
         (
             "reads-nothing",
-            "echo 1 0 0",
+            "\"$check\" < /dev/null",
             "line 1, theirs: \"1 0 0\\n\"",
         ),
         (

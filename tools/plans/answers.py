@@ -5,7 +5,7 @@ from dataclasses import dataclass
 from .lateness import late
 from .limits import KEYS
 from .ordering import fall
-from .questions import RANGES, wording
+from .questions import QUESTIONS, RANGES, phrase
 from .schema import BY_KIND, kind_of
 from .troubles import trouble
 
@@ -50,8 +50,14 @@ def ask(program, image):
 def explained(plan, answer):
     """The answer in words, with the row by name."""
     if answer.accepted:
-        return f"accepted ({answer})"
-    return f"refused ({answer}){row_title(plan, answer)}; no to question {answer.number}: {wording(answer.number)}"
+        return f"{phrase(answer.number)} ({answer})"
+    return f"refused ({answer}){row_title(plan, answer)}: {phrase(answer.number)}"
+
+
+def question(answer):
+    """What was asked, of a question of the check; else nothing."""
+    asked = QUESTIONS.get(answer.number)
+    return f"No to question {answer.number}: {asked}" if asked else ""
 
 
 def fall_of(plan, answer):

@@ -4,7 +4,7 @@ import os
 import sys
 from pathlib import Path
 
-from .answers import ORDER, ask, explained, line_before, lines_of, parse, reason
+from .answers import ORDER, ask, explained, line_before, lines_of, parse, question, reason
 from .files import is_text, load, plan_in, read_bytes, write_whole
 from .image import encode
 from .lateness import assumed
@@ -110,7 +110,7 @@ def run_loads(options):
     """Prints the answer, then the loads where a draft can be made from the plan, else the row that keeps it from that."""
     data, plan = image_and_plan(options)
     answer = ask(options.plancheck, data)
-    print(explained(plan, answer))
+    tell(plan, answer)
     if plan and not hinders(answer):
         print(f"\n{loads(plan)}", end="")
         return 0
@@ -124,13 +124,20 @@ def run_check(options):
     """Prints the answer in words; an image that cannot be read has an answer too."""
     data, plan = image_and_plan(options)
     answer = ask(options.plancheck, data)
-    print(explained(plan, answer))
+    tell(plan, answer)
     if plan and answer.accepted:
         for line in assumed(plan):
             print(line)
     elif plan:
         tell_row(plan, answer)
     return 0 if answer.accepted else 1
+
+
+def tell(plan, answer):
+    """The answer in words, and the question that it says no to."""
+    print(explained(plan, answer))
+    if question(answer):
+        print(question(answer))
 
 
 def tell_row(plan, answer):

@@ -1,4 +1,4 @@
-"""The questions in short, in the order in which the plan paper asks them."""
+"""The questions in short, in the order in which the plan paper asks them, and what an answer's number says."""
 
 QUESTIONS = {
     1: "is the image's length in bounds?",
@@ -40,6 +40,56 @@ RANGES = {
     "buffer": "number at most 63, writer and reader different",
 }
 
+# What each number of an answer says, from 0 on: the checker's own phrases (crates/texts/specs/Wording.antt; test_questions.py compares).
+PHRASES = (
+    "accepted, every question is answered yes",  # 0
+    "the image's length is out of bounds",
+    "the last word does not point to the trailer",
+    "row counts, offsets and trailer do not fit",
+    "the cycle H or the precision P is out of range",
+    "a row number names no existing row",  # 5
+    "a value is out of range",
+    "a window is too short, or ends after H",
+    "two windows on one core overlap",
+    "a task's mask does not allow its VCPU's core",
+    "no such job, or a piece too short, early or late",  # 10
+    "not in one window of its VCPU after the switch",
+    "two pieces on one core overlap",
+    "a job's pieces do not sum to budget and switches",
+    "periods differ, or both tasks are on one node",
+    "no such job or hop, or not in its job's period",  # 15
+    "a job's hop has no frame, or several",
+    "the hops do not lead from sender to receiver",
+    "may start before the previous hop has arrived",
+    "two frames on one link overlap",
+    "sent before the sender ends, or may be read early",  # 20
+    "may take longer than its latency",
+    "periods differ, or the tasks are not on one node",
+    "a reader job starts before the writer job ends",
+    "two holds of one buffer overlap",
+    "there is no such lane or link",  # 25
+    "too few words are lent",
+    "a state does not fit its bytes or its words",
+    "the calendar is over",
+    "one of its tasks does not exist, or both are one",
+    "no path joins its tasks",  # 30
+    "a job may take longer than the limit",
+    "a row is out of order, below the one before it",
+    "no draft with true totals, or no such piece",
+    "no such free place, or too few words are lent",
+    "H, P, cores, VCPUs, windows or links differ",  # 35
+    "the shared tasks differ, or are not in both plans",
+    "too many rows, or too few bytes are lent",
+    "no register has this address",
+    "the count is read only",
+    "the queue is out of range",  # 40
+    "two frames stay in one queue of a link at once",
+    "too few words are lent for the gate list",
+    "no plan is held at that place",
+    "H, core or link count is not the running plan's",
+)
+UNKNOWN = "no question has this number"
 
-def wording(number):
-    return QUESTIONS.get(number, "not known to this tool")
+
+def phrase(number):
+    return PHRASES[number] if number < len(PHRASES) else UNKNOWN

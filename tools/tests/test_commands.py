@@ -13,6 +13,8 @@ from support import CASE_A, EXAMPLES, TOOLS
 
 from plans.commands import main
 
+ACCEPTED = "accepted, every question is answered yes (0 0 0)"
+
 Ran = namedtuple("Ran", "returncode stdout stderr")
 
 
@@ -126,22 +128,23 @@ class Commands(unittest.TestCase):
 
     def test_check_tells_where_a_row_was_changed(self):
         ran = run("check", EXAMPLES / "q18-hop-too-soon.txt", "--plancheck", self.program("18 8 1"))
-        lines = [line.rsplit("/", 1)[-1] for line in ran.stdout.splitlines()[1:]]
+        lines = [line.rsplit("/", 1)[-1] for line in ran.stdout.splitlines()[2:]]
         self.assertEqual(lines, ["two-hops.txt:10: this row", "q18-hop-too-soon.txt:6: this row"])
 
     def test_check(self):
         text = self.put("a.txt", CASE_A)
         ran = run("check", text, "--plancheck", self.program("0 0 0"))
-        self.assertEqual((ran.returncode, ran.stdout), (0, "accepted (0 0 0)\n"))
+        self.assertEqual((ran.returncode, ran.stdout), (0, f"{ACCEPTED}\n"))
         ran = run("check", text, "--plancheck", self.program("13 3 0"))
         self.assertEqual(ran.returncode, 1)
-        self.assertIn("at task decode; no to question 13", ran.stdout)
+        self.assertIn("at task decode: a job's pieces do not sum to budget and switches\nNo to question 13: ", ran.stdout)
         self.assertIn(f"{text}:4: this row", ran.stdout)
 
     def test_check_of_values_out_of_range(self):
         ran = run("check", EXAMPLES / "q06-lowest-above-delay.txt", "--plancheck", self.program("6 6 2"))
-        first, ranges, *lines = ran.stdout.splitlines()
-        self.assertEqual(first, "refused (6 6 2) at link riser; no to question 6: are the row's values in range?")
+        first, asked, ranges, *lines = ran.stdout.splitlines()
+        self.assertEqual(first, "refused (6 6 2) at link riser: a value is out of range")
+        self.assertEqual(asked, "No to question 6: are the row's values in range?")
         self.assertTrue(ranges.startswith("In a link: ") and ranges.endswith("lowest at most delay."), ranges)
         self.assertEqual([line.rsplit("/", 1)[-1] for line in lines], ["fibre.txt:27: this row", "q06-lowest-above-delay.txt:6: this row"])
 
@@ -151,12 +154,13 @@ class Commands(unittest.TestCase):
             ("period-latency", []),
         ):
             ran = run("check", EXAMPLES / f"{name}.txt", "--plancheck", self.program("0 0 0"))
-            self.assertEqual((ran.returncode, ran.stdout.splitlines()), (0, ["accepted (0 0 0)", *lines]))
+            self.assertEqual((ran.returncode, ran.stdout.splitlines()), (0, [ACCEPTED, *lines]))
 
     def test_check_of_a_limit_of_0_tells_the_period(self):
         ran = run("check", EXAMPLES / "q21-relied-on-period.txt", "--plancheck", self.program("21 7 0"))
-        first, *told = ran.stdout.splitlines()
-        self.assertTrue(first.startswith("refused (21 7 0) at stream labels; no to question 21: "), first)
+        first, asked, *told = ran.stdout.splitlines()
+        self.assertEqual(first, "refused (21 7 0) at stream labels: may take longer than its latency")
+        self.assertTrue(asked.startswith("No to question 21: "), asked)
         self.assertEqual((ran.returncode, [line.rsplit("/", 1)[-1] for line in told]), (1, [
             "labels takes up to 20 ticks: in job 1, 38 - 22 + 4 (P). Its latency of 0 stands for 19, the deadline of sort.",
             "In plans from before request 8 it stood for 20, the period of scan: write latency=20 to keep the old meaning.",
@@ -174,7 +178,7 @@ class Commands(unittest.TestCase):
         text = self.put("a.txt", CASE_A + "\n".join(rows))
         ran = run("check", text, "--plancheck", self.program("32 5 2"))
         self.assertEqual(ran.returncode, 1)
-        self.assertEqual(ran.stdout.splitlines()[1:], [
+        self.assertEqual(ran.stdout.splitlines()[2:], [
             "piece2 is below piece1: start 0 is below 6. It belongs before piece0.",
             f"{text}:9: this row",
             f"{text}:6: it belongs before this row",
@@ -183,7 +187,7 @@ class Commands(unittest.TestCase):
 
     def test_check_of_an_image_out_of_order(self):
         ran = run("check", EXAMPLES / "q32-pieces-by-task.image", "--plancheck", self.program("32 5 5"))
-        self.assertEqual(ran.stdout.splitlines()[1:], [
+        self.assertEqual(ran.stdout.splitlines()[2:], [
             "piece5 is below piece4: equal start 12; task 0 is below 4. It belongs before piece4.",
             "--in-order takes all rows in order.",
         ])
@@ -194,7 +198,7 @@ class Commands(unittest.TestCase):
         asked = self.folder / "asked"
         checker = self.recording("10 5 0", asked)
         ran = run("check", text, "--in-order", "--plancheck", checker)
-        self.assertEqual(ran.stdout.splitlines()[1:], [f"{text}:7: this row"])
+        self.assertEqual(ran.stdout.splitlines()[2:], [f"{text}:7: this row"])
         run("image", text, self.folder / "a.image", "--in-order")
         self.assertEqual(asked.read_bytes(), (self.folder / "a.image").read_bytes())
         run("check", text, "--plancheck", checker)
@@ -213,7 +217,7 @@ class Commands(unittest.TestCase):
         for name in ("tunnel.txt", "case-a.image"):
             ran = self.loads(name)
             self.assertEqual((ran.returncode, ran.stderr), (0, ""))
-            self.assertTrue(ran.stdout.startswith("accepted (0 0 0)\n\ncycle "), ran.stdout)
+            self.assertTrue(ran.stdout.startswith(f"{ACCEPTED}\n\ncycle "), ran.stdout)
 
     def test_loads_of_plans_refused_by_later_questions(self):
         """A draft can be made from them."""
@@ -221,7 +225,7 @@ class Commands(unittest.TestCase):
             for path in EXAMPLES.glob(f"q{number}-*.txt"):
                 ran = self.loads(path.name)
                 self.assertEqual(ran.returncode, 0, path.name)
-                self.assertIn(f"no to question {number}: ", ran.stdout)
+                self.assertIn(f"No to question {number}: ", ran.stdout)
                 self.assertIn("\ncores (", ran.stdout)
 
     def test_no_loads_of_plans_refused_by_earlier_questions(self):
@@ -229,13 +233,13 @@ class Commands(unittest.TestCase):
             for path in EXAMPLES.glob(f"q{number:02}-*.image"):
                 ran = self.loads(path.name)
                 self.assertEqual(ran.returncode, 1, path.name)
-                self.assertIn(f"no to question {number}: ", ran.stdout)
+                self.assertIn(f"No to question {number}: ", ran.stdout)
                 self.assertTrue(ran.stdout.endswith("No loads: they need yes to questions 1 to 10 and 32, as a draft does.\n"))
                 self.assertNotIn("cores (", ran.stdout)
 
     def test_no_loads_tell_the_row_and_its_line(self):
         ran = self.loads("q10-after-due-tick.txt")
-        self.assertIn("refused (10 5 0) at piece0; no to question 10", ran.stdout)
+        self.assertIn("refused (10 5 0) at piece0: no such job, or a piece too short, early or late\nNo to question 10: ", ran.stdout)
         self.assertIn("case-a.txt:11: this row\n", ran.stdout)
 
     def test_loads_in_order_ask_about_the_plan_in_order(self):
@@ -251,7 +255,7 @@ class Commands(unittest.TestCase):
 
     def test_check_of_an_unreadable_image(self):
         ran = run("check", EXAMPLES / "q02-last-word.image", "--plancheck", self.program("2 0 0"))
-        self.assertIn("refused (2 0 0); no to question 2", ran.stdout)
+        self.assertIn("refused (2 0 0): the last word does not point to the trailer\nNo to question 2: ", ran.stdout)
 
     def test_picture(self):
         out = self.folder / "a.svg"

@@ -5,7 +5,7 @@ from xml.etree import ElementTree
 
 from support import CASE_A, EXAMPLES, SHAPES, generated
 
-from plans.answers import Answer, explained, parse
+from plans.answers import Answer, explained, parse, question
 from plans.files import load
 from plans.image import decode
 from plans.model import Plan
@@ -363,7 +363,7 @@ class Colours(unittest.TestCase):
 class Words(unittest.TestCase):
     def test_a_row_out_of_order_is_told_in_the_title(self):
         title = " ".join(texts(drawn(*example("q32-pieces-by-task"))))
-        self.assertIn("refused (32 5 5) at piece5; no to question 32: do windows, pieces and frames rise by start,", title)
+        self.assertIn("refused (32 5 5) at piece5: a row is out of order, below the one before it", title)
         self.assertIn("piece5 is below piece4: equal start 12; task 0 (beat) is below 4 (log). It belongs before piece4.", title)
 
     def test_a_late_row_is_told_in_the_title(self):
@@ -373,8 +373,10 @@ class Words(unittest.TestCase):
 
     def test_answers_in_words(self):
         plan, answer = example("q13-a-tick-short")
-        expected = "refused (13 3 0) at task decode; no to question 13: do each job's n pieces sum to C + n×d?"
+        expected = "refused (13 3 0) at task decode: a job's pieces do not sum to budget and switches"
         self.assertEqual(explained(plan, answer), expected)
+        self.assertEqual(question(answer), "No to question 13: do each job's n pieces sum to C + n×d?")
+        self.assertEqual([question(Answer(number, 0, 0)) for number in (0, 25, 45)], [""] * 3)
 
 
 if __name__ == "__main__":

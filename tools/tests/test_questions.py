@@ -1,11 +1,11 @@
-"""The list of questions: each has an example, and the README's list is the same, in the order asked."""
+"""The list of questions: each has an example, and the README's list is the same, in the order asked. The phrases: the checker's own."""
 import re
 import unittest
 
 from support import EXAMPLES, ROOT
 
 from plans.answers import parse
-from plans.questions import QUESTIONS, RANGES
+from plans.questions import PHRASES, QUESTIONS, RANGES, UNKNOWN, phrase
 from plans.schema import BY_KIND
 
 NAMED = re.compile(r"q(\d\d)-")
@@ -36,6 +36,35 @@ class Questions(unittest.TestCase):
     def test_examples_are_refused_by_the_question_of_their_name(self):
         for path in EXAMPLES.glob("q*.lines"):
             self.assertEqual(parse(path.read_text().splitlines()[0]).number, int(NAMED.match(path.name)[1]), path.name)
+
+
+def defined(name):
+    """The texts of a definition of crates/texts/specs/Wording.antt, a list of texts or one text."""
+    specs = (ROOT / "crates/texts/specs/Wording.antt").read_text()
+    (body,) = re.findall(rf"\n{name} =(.*?)\n\n", specs, flags=re.DOTALL)
+    return tuple(re.findall(r'"([^"]*)"', body))
+
+
+def line_of(answer):
+    """The answer in words, as request 9 has it."""
+    kinds = dict(enumerate(defined("kinds"), 1))
+    place = f"{kinds[answer.table]} {answer.row}" if answer.table in kinds else f"table {answer.table}, row {answer.row}"
+    return f"{phrase(answer.number)} (answer {answer.number}, {place})"
+
+
+class Phrases(unittest.TestCase):
+    def test_they_are_those_of_the_definition(self):
+        self.assertEqual(PHRASES, defined("phrases"))
+        self.assertEqual((UNKNOWN,), defined("unknown"))
+
+    def test_each_question_has_one(self):
+        self.assertLess(max(QUESTIONS), len(PHRASES))
+        self.assertEqual(phrase(len(PHRASES)), UNKNOWN)
+
+    def test_examples_have_the_answer_in_words(self):
+        for path in EXAMPLES.glob("*.lines"):
+            numbers, words = path.read_text().splitlines()[:2]
+            self.assertEqual(words, line_of(parse(numbers)), path.name)
 
 
 if __name__ == "__main__":

@@ -4,7 +4,7 @@ use mathlib.Core.Path.{_≡_, sym, ap, _∙_}
 use mathlib.Core.List.{List}
 use native.Mathlib.Omega.{arith}
 use lib.ListN.{set}
-use Rattle.texts.specs.Printed.{decimal}
+use Rattle.texts.specs.Characters.{decimal}
 use Rattle.lines.specs.Putting.{Put}
 use Rattle.texts.proofs.Digits.{decimal-low, decimal-high, decimal-ten}
 use Rattle.lines.proofs.Storing.{put-one, put-more, put-as}

@@ -1,12 +1,13 @@
-// Numbers and lines of text (paper 01, "Cases") put into lent bytes, as far as these reach; the place after them is given either way.
+// Numbers and lines of numbers (paper 01, "Cases") put into lent bytes, as far as these reach; the place after them is given either way.
 ghost use mathlib.Core.Path.{_≡_};
 ghost use Prim.Native.Nat.{_^_, _≤_};
 ghost use lib.ListN.{set};
-ghost use Rattle.texts.specs.Printed.{decimal, ended, answerLine, entryLine};
+ghost use Rattle.texts.specs.Characters.{decimal};
+ghost use Rattle.texts.specs.Printed.{ended, answerLine, entryLine};
 ghost use Rattle.lines.specs.Putting.{Put};
 
 // Stores a byte where there is room for it.
-fn put(out: &mut [u8], at: usize, x: u8)
+pub fn put(out: &mut [u8], at: usize, x: u8)
     ensures { λ _. ⌜ now (out .exit) ≡ set (now (out .entry)) at x ⌝ }
 {
     if at < out.len() {
@@ -15,7 +16,7 @@ fn put(out: &mut [u8], at: usize, x: u8)
 }
 
 // A number's digits from byte `at` on. Gives the place after them.
-fn put_digits(out: &mut [u8], at: usize, n: u32) -> usize
+pub fn put_digits(out: &mut [u8], at: usize, n: u32) -> usize
     requires { ⌜ at ≤ 2 ^ 40 ⌝ }
     ensures { λ r. ⌜ Put (now (out .entry)) at (decimal n) 10 r (now (out .exit)) ⌝ }
 {

@@ -5,6 +5,7 @@ ghost use Prim.Native.Nat.{_+_, _*_, _^_};
 ghost use Rattle.plan.specs.Boundary.{checkNumber, buildNumber, buildBytes, startNumber, startBytes, stepNumber, stepBytes, stepAllNumber, stepAllBytes};
 ghost use Rattle.writing.specs.AllTables.{allNumber, allBytes};
 ghost use Rattle.arrivals.specs.Arrivals.{arrivalNumber, arrivalBytes};
+ghost use Rattle.texts.specs.Wording.{lineLength, lineBytes};
 ghost use Rattle.drafts.specs.Edits.{pieceOf, makeNumber, makeWords, addNumber, addWords, removeNumber, removeWords, moveNumber, moveWords, jobNumber, jobValue, coreNumber, coreValue, placeNumber, placeLeaves};
 use packing::packed;
 use plan::LaneState;
@@ -93,6 +94,15 @@ pub extern "C" fn rd_arrivals(image: &[u8], frame: u32, ticks: &mut [u8]) -> u64
     ensures { λ r. ⌜ (r ≡ arrivalNumber (now (image .entry)) frame (now (ticks .entry))) × (now (ticks .exit) ≡ arrivalBytes (now (image .entry)) frame (now (ticks .entry))) ⌝ }
 {
     packed(arriving::store(image, frame, ticks))
+}
+
+// Writes an answer in words, without a newline. Gives its length, or 0 where the bytes are fewer, and then no byte changes. Later bytes stay
+// as they are.
+#[no_mangle]
+pub extern "C" fn rd_line(number: u32, table: u32, row: u32, line: &mut [u8]) -> u32
+    ensures { λ r. ⌜ (r ≡ lineLength (record { number = number; table = table; row = row }) (now (line .entry))) × (now (line .exit) ≡ lineBytes (record { number = number; table = table; row = row }) (now (line .entry))) ⌝ }
+{
+    wording::write_line(number, table, row, line)
 }
 
 // Makes a draft of an image in lent words: 1 to 5, 32, 6 to 10, then 34. Gives 0, or the number of a refusal, which changes no word; no word

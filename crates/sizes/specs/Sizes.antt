@@ -19,6 +19,6 @@ LaneFits = (image : List ℕ) → answerOf image ≡ accepted → (lane : ℕ) �
 abbrev pub TablesFit : Type 0
 TablesFit = (image : List ℕ) → answerOf image ≡ accepted → (sum (lanes image) (entryCount image) ≤ 10336) × (length (allTables image) ≤ 31200)
 
--- a line of an entry has at most 17 bytes, so the text has at most 6 + 17×10,336 bytes; proved in proofs/Texts.antt
+-- a line of an entry has at most 17 bytes, so the text has at most 6 + 68 + 17×10,336 bytes; proved in proofs/Texts.antt
 abbrev pub TextFits : Type 0
-TextFits = (image : List ℕ) → length (printed image) ≤ 175718
+TextFits = (image : List ℕ) → length (printed image) ≤ 175786

@@ -1,4 +1,9 @@
 pub mod Digits
+pub mod ReadNumber
+pub mod Passing
+pub mod Listed
+pub mod Fitting
+pub mod Differing
 pub mod Lines
 pub mod ReadBack
 pub mod Witness

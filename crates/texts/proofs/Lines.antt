@@ -8,7 +8,7 @@ use lib.ListN.{length}
 use borrow.Author.Tests.{eq-eqb, ne-eqb}
 use Rattle.plan.specs.Questions.{answerOf}
 use Rattle.plan.specs.Dispatch.{lanes}
-use Rattle.texts.specs.Printed.{answerLine, entryLine, entryLines, linesBelow, printed}
+use Rattle.texts.specs.Printed.{answerLine, wordLine, entryLine, entryLines, linesBelow, tableLines, printed}
 
 -- ---- entries line by line
 
@@ -29,10 +29,10 @@ one-entry lane t k r = append-nil (entryLine lane t k r)
 -- ---- the text
 
 module _ (s : List ℕ) where
-  pub refused-text : answerOf s .number ≢ 0 → printed s ≡ answerLine (answerOf s)
-  unfolding printed
-  refused-text h = rw (ne-eqb (answerOf s .number) 0 h) (append-nil (answerLine (answerOf s)))
+  pub refused-text : answerOf s .number ≢ 0 → printed s ≡ answerLine (answerOf s) ++ wordLine (answerOf s)
+  unfolding tableLines printed
+  refused-text h = rw (ne-eqb (answerOf s .number) 0 h) (append-nil (answerLine (answerOf s) ++ wordLine (answerOf s)))
 
-  pub accepted-text : answerOf s .number ≡ 0 → printed s ≡ answerLine (answerOf s) ++ linesBelow s (lanes s)
-  unfolding printed
+  pub accepted-text : answerOf s .number ≡ 0 → printed s ≡ answerLine (answerOf s) ++ wordLine (answerOf s) ++ linesBelow s (lanes s)
+  unfolding tableLines printed
   accepted-text h = rw (eq-eqb (answerOf s .number) 0 h) refl

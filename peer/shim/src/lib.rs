@@ -3,7 +3,9 @@
 use std::slice::{from_raw_parts, from_raw_parts_mut};
 
 use peer::boundary::{Boundary, Peer};
-use peer::drafts::{Drafts, Fault, Standin};
+use peer::drafts::{self, Drafts};
+use peer::lines::{self, Lines};
+use peer::Answer;
 
 /// # Safety
 /// The pointer leads to so many bytes.
@@ -90,14 +92,16 @@ pub unsafe extern "C" fn rd_arrivals(
     Peer.arrivals(image, frame, from_raw_parts_mut(ticks, ticks_len))
 }
 
+/// The fault that an environment variable names, if it is set.
+fn fault<F: Copy + std::fmt::Debug>(variable: &str, all: &[F]) -> Option<F> {
+    let name = std::env::var(variable).ok()?;
+    let named = all.iter().find(|fault| format!("{fault:?}") == name);
+    Some(*named.unwrap_or_else(|| panic!("{variable} is one of {all:?}")))
+}
+
 /// The drafts, wrong in the way that RD_DRAFT_FAULT names, if it is set.
-fn drafts() -> Standin {
-    let named = std::env::var("RD_DRAFT_FAULT").ok();
-    Standin(named.map(|name| {
-        let mut faults = Fault::ALL.iter().copied();
-        let fault = faults.find(|fault| format!("{fault:?}") == name);
-        fault.unwrap_or_else(|| panic!("RD_DRAFT_FAULT is one of {:?}", Fault::ALL))
-    }))
+fn drafts() -> drafts::Standin {
+    drafts::Standin(fault("RD_DRAFT_FAULT", drafts::Fault::ALL))
 }
 
 /// # Safety
@@ -170,4 +174,21 @@ pub unsafe extern "C" fn rd_draft_place(
 ) -> u32 {
     let piece = from_raw_parts_mut(piece, m);
     drafts().place(from_raw_parts_mut(words, n), place, piece)
+}
+
+/// The line, wrong in the way that RD_LINE_FAULT names, if it is set.
+///
+/// # Safety
+/// The pointer leads to so many bytes.
+#[no_mangle]
+pub unsafe extern "C" fn rd_line(
+    number: u32,
+    table: u32,
+    row: u32,
+    line: *mut u8,
+    line_len: usize,
+) -> u32 {
+    let lines = lines::Standin(fault("RD_LINE_FAULT", lines::Fault::ALL));
+    let answer = Answer::at(number, table, row);
+    lines.line(answer, from_raw_parts_mut(line, line_len))
 }

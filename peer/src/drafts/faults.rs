@@ -1,18 +1,6 @@
 //! Ways in which the stand-in can be made wrong, to see that they are noticed.
 
-/// An enum with all its variants in a list.
-macro_rules! faults {
-    ($($(#[$about:meta])* $fault:ident,)+) => {
-        #[derive(Clone, Copy, Debug, PartialEq, Eq)]
-        pub enum Fault {
-            $($(#[$about])* $fault,)+
-        }
-
-        impl Fault {
-            pub const ALL: &'static [Fault] = &[$(Fault::$fault,)+];
-        }
-    };
-}
+use crate::faults::faults;
 
 faults! {
     // Making

@@ -1,15 +1,23 @@
 //! What stood in the texts, and what has to.
 
+use std::collections::BTreeSet;
 use std::fmt;
 
+use crate::answer::Answer;
 use crate::histogram::Histogram;
-use crate::image::{CORE, FRAME, LINK, PIECE, ROW_BOUNDS, WINDOW};
+use crate::image::{CORE, FRAME, LINK, PIECE, ROW_BOUNDS, TABLES, WINDOW};
+use crate::line::kind;
+use crate::lines::Ledger;
 use crate::questions::QUESTIONS;
 
 /// What stood in the texts.
 #[derive(Clone, Debug, Default)]
 pub struct Met {
     pub answers: Histogram,
+    /// The program's lines in words.
+    pub lines: Ledger,
+    /// Tables of which a row was refused.
+    pub refused_tables: BTreeSet<u32>,
     pub refused_rows: Numbers,
     pub shown_rows: Numbers,
     pub first_ticks: Numbers,
@@ -52,31 +60,38 @@ const ALL_LANES: usize = most(CORE) + most(LINK);
 /// Three entries for each window (idle before, switch, the rest at its end)
 /// and each piece (the rest before, switch, work), and idle at the lane's end.
 const MOST_ENTRIES: usize = 3 * (most(WINDOW) + most(PIECE)) + 1;
-/// The answer, as many entries for windows and pieces, two for each frame
+/// The answer twice, as many entries for windows and pieces, two for each frame
 /// (idle before, sending), and idle at each lane's end.
-const MOST_LINES: usize = 1 + 3 * (most(WINDOW) + most(PIECE)) + 2 * most(FRAME) + ALL_LANES;
+const MOST_LINES: usize = 2 + 3 * (most(WINDOW) + most(PIECE)) + 2 * most(FRAME) + ALL_LANES;
 
 /// The highest row count of a table.
 const fn most(table: u32) -> usize {
     ROW_BOUNDS[table as usize - 1].1 as usize
 }
 
+/// The answer of a text as `report` gives it.
+pub fn answer_of(text: &str) -> Answer {
+    let first = text.lines().next().expect("a text has lines");
+    let [number, table, row] = words(first);
+    Answer::at(number, table, row)
+}
+
 impl Met {
     /// Takes in a text as `report` gives it.
     pub fn meet(&mut self, text: &str) {
-        let (answer, entries) = text.split_once('\n').expect("a text has lines");
-        let [number, _, row] = words(answer);
+        let Answer { number, table, row } = answer_of(text);
         self.answers.count(number);
         if number > 0 {
+            self.refused_tables.insert(table);
             self.refused_rows.meet(row);
         }
-        self.meet_entries(entries);
+        self.meet_entries(text.lines().skip(2));
         self.most_lines = self.most_lines.max(text.lines().count());
         self.most_bytes = self.most_bytes.max(text.len());
     }
 
-    fn meet_entries(&mut self, entries: &str) {
-        let entries: Vec<[u32; 4]> = entries.lines().map(words).collect();
+    fn meet_entries<'a>(&mut self, entries: impl Iterator<Item = &'a str>) {
+        let entries: Vec<[u32; 4]> = entries.map(words).collect();
         for &[_, first_tick, _, row] in &entries {
             self.first_ticks.meet(first_tick);
             self.shown_rows.meet(row);
@@ -91,11 +106,14 @@ impl Met {
     pub fn missing(&self) -> Vec<String> {
         let asked = QUESTIONS.iter();
         let unasked = asked.filter(|number| self.answers.of(**number) == 0);
+        let tables = (1..=TABLES as u32).filter(|table| !self.refused_tables.contains(table));
+        let kinds = tables.filter_map(kind);
         let refused = self.refused_rows.lacking(HIGHEST_ROW);
         let shown = self.shown_rows.lacking(HIGHEST_ROW);
         let ticks = self.first_ticks.lacking(HIGHEST_TICK);
         let mut missing: Vec<String> = unasked
             .map(|number| format!("a refusal by question {number}"))
+            .chain(kinds.map(|kind| format!("a refused {kind}")))
             .chain(refused.map(|length| format!("a refused row of {length} digits")))
             .chain(shown.map(|length| format!("a shown row of {length} digits")))
             .chain(ticks.map(|length| format!("a first tick of {length} digits")))
@@ -137,6 +155,11 @@ impl fmt::Display for Met {
             out,
             "the highest row: {} refused, {} shown; the highest first tick: {}",
             self.refused_rows.highest, self.shown_rows.highest, self.first_ticks.highest
+        )?;
+        let (answers, (shortest, longest)) = (self.lines.answers(), self.lines.lengths());
+        writeln!(
+            out,
+            "lines in words: {answers} different, of {shortest} to {longest} bytes"
         )
     }
 }

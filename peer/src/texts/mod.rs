@@ -1,4 +1,5 @@
-//! What a program prints beside what this package prints, byte for byte.
+//! What a program prints beside what this package prints, byte for byte but
+//! for the line in words, which has a wording of its own.
 
 mod inputs;
 mod met;
@@ -6,6 +7,8 @@ mod process;
 
 use std::fmt;
 
+use crate::answer::Answer;
+use crate::lines::{ask, Ledger};
 use crate::report::report;
 
 pub use inputs::image;
@@ -30,7 +33,9 @@ pub fn run(settings: &Settings, program: &Program) -> Result<Met, Difference> {
     for number in settings.first_image..settings.first_image + settings.images {
         let image = image(settings.seed, number);
         let ours = report(&image);
-        compare(ours.as_bytes(), program(&image)).map_err(|how| Difference {
+        let found = program(&image).map_err(|failure| format!("the program fails: {failure}"));
+        let alike = found.and_then(|theirs| compare(&ours, &theirs, &mut met.lines));
+        alike.map_err(|how| Difference {
             seed: settings.seed,
             number,
             length: image.len(),
@@ -70,26 +75,40 @@ impl fmt::Display for Difference {
     }
 }
 
-/// Says how the program's text differs.
-fn compare(ours: &[u8], theirs: Result<Vec<u8>, String>) -> Result<(), String> {
-    match theirs {
-        Err(failure) => Err(format!("the program fails: {failure}")),
-        Ok(theirs) if theirs == ours => Ok(()),
-        Ok(theirs) => Err(first_difference(ours, &theirs)),
-    }
-}
+/// The second line of a text.
+const IN_WORDS: usize = 2;
 
-/// The first line that differs, of both texts that do.
-fn first_difference(ours: &[u8], theirs: &[u8]) -> String {
-    let (mut ours, mut theirs) = (lines(ours), lines(theirs));
+/// Says where and how the program's text first differs. What its line in
+/// words is, is asked when all before it is right.
+fn compare(ours: &str, theirs: &[u8], known: &mut Ledger) -> Result<(), String> {
+    let answer = met::answer_of(ours);
+    let (mut ours, mut theirs) = (lines(ours.as_bytes()), lines(theirs));
     for number in 1.. {
         let (our, their) = (ours.next(), theirs.next());
-        if our != their {
+        if number == IN_WORDS {
+            let told = |how| format!("line {number}, theirs: {}: {how}", quoted(their));
+            ask_in_words(answer, their, known).map_err(told)?;
+        } else if our != their {
             let (our, their) = (quoted(our), quoted(their));
-            return format!("line {number}, ours: {our}\nline {number}, theirs: {their}");
+            return Err(format!(
+                "line {number}, ours: {our}\nline {number}, theirs: {their}"
+            ));
+        } else if our.is_none() {
+            break;
         }
     }
-    unreachable!("texts that differ have a line that does")
+    Ok(())
+}
+
+fn ask_in_words(answer: Answer, line: Option<&[u8]>, known: &mut Ledger) -> Result<(), String> {
+    let Some(line) = line else {
+        return Err("it should be there".to_string());
+    };
+    let Some(line) = line.strip_suffix(b"\n") else {
+        return Err("it has no newline".to_string());
+    };
+    ask(answer, line)?;
+    known.meet(answer, line)
 }
 
 fn lines(text: &[u8]) -> impl Iterator<Item = &[u8]> {
