@@ -92,4 +92,4 @@ UNKNOWN = "no question has this number"
 
 
 def phrase(number):
-    return PHRASES[number] if number < len(PHRASES) else UNKNOWN
+    return PHRASES[number] if 0 <= number < len(PHRASES) else UNKNOWN

@@ -59,7 +59,7 @@ class Phrases(unittest.TestCase):
 
     def test_each_question_has_one(self):
         self.assertLess(max(QUESTIONS), len(PHRASES))
-        self.assertEqual(phrase(len(PHRASES)), UNKNOWN)
+        self.assertEqual([phrase(number) for number in (-1, len(PHRASES))], [UNKNOWN] * 2)
 
     def test_examples_have_the_answer_in_words(self):
         for path in EXAMPLES.glob("*.lines"):

@@ -26,14 +26,6 @@ use Rattle.texts.proofs.Fitting.{decimal-digits, phrase-every, kind-nam
 number-first : (x y c : ℕ) (us vs : List ℕ) → digit c ≡ false → decimal x ++ c ∷ us ≡ decimal y ++ c ∷ vs → (x ≡ y) × (us ≡ vs)
 number-first x y c us vs h e = let r = split digit (decimal x) (decimal y) c c us vs (decimal-digits x) (decimal-digits y) h h e in (decimal-same x y (r .0), r .1)
 
-comma : digit 44 ≡ false
-unfolding digit
-comma = refl
-
-bracket : digit 41 ≡ false
-unfolding digit
-bracket = refl
-
 -- ---- a kind in front of the rest
 
 -- its first word, a name or "table", and what follows that and a space
@@ -127,7 +119,7 @@ kind-first t u z w e =
     go (same-word t u (r .0)) (r .1)
   where
     number : decimal t ++ (ascii ", row " ++ z) ≡ decimal u ++ (ascii ", row " ++ w) → (t ≡ u) × (z ≡ w)
-    number q = let s = number-first t u 44 (ascii " row " ++ z) (ascii " row " ++ w) comma (unfold ascii in q) in (s .0, cancel (ascii " row ") z w (s .1))
+    number q = let s = number-first t u 44 (ascii " row " ++ z) (ascii " row " ++ w) (unfold digit in refl) (unfold ascii in q) in (s .0, cancel (ascii " row ") z w (s .1))
 
     go : ((named t ≡ true) × (t ≡ u)) ⊎ ((named t ≡ false) × (named u ≡ false)) → after t z ≡ after u w → (t ≡ u) × (z ≡ w)
     go (inl p) q = (p .1, sym (after-name t z (p .0)) ∙ q ∙ after-name u w (sym (ap named (p .1)) ∙ p .0))
@@ -167,9 +159,9 @@ pub lines-differ : LinesDiffer
 unfolding in-brackets
 lines-differ a b e =
     let d = split inside _ _ 40 40 _ _ (before-bracket (a .number)) (before-bracket (b .number)) stop stop (sym (line-is a) ∙ e ∙ line-is b) .1 in
-    let n = number-first (a .number) (b .number) 44 _ _ comma (cancel (ascii "answer ") (in-brackets a) (in-brackets b) d) in
+    let n = number-first (a .number) (b .number) 44 _ _ (unfold digit in refl) (cancel (ascii "answer ") (in-brackets a) (in-brackets b) d) in
     let t = kind-first (a .table) (b .table) _ _ (ap (drop 1) (n .1)) in
-    let r = number-first (a .row) (b .row) 41 [] [] bracket (t .1) in
+    let r = number-first (a .row) (b .row) 41 [] [] (unfold digit in refl) (t .1) in
     λ i. record { number = n .0 i; table = t .0 i; row = r .0 i }
 
 -- ---- phrases

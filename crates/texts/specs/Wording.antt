@@ -73,7 +73,7 @@ kinds = "core" ∷ "VCPU" ∷ "task" ∷ "window" ∷ "piece" ∷ "link" ∷ "st
 unfoldable pub named : ℕ → Bool
 named t = ltb 0 t && leb t (length kinds)
 
--- a kind by name; a table number without a name stands in decimal
+-- a kind by name, "piece"; a table number without a name stands in decimal, "table 0, row"
 unfoldable pub kind : ℕ → List ℕ
 kind t = cond (named t) (ascii (getD kinds (t - 1) none)) (ascii "table " ++ (decimal t ++ ascii ", row"))
 

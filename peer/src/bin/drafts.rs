@@ -9,7 +9,7 @@
 
 #[cfg(rd_lib)]
 fn main() -> std::process::ExitCode {
-    use peer::drafts::{run, Settings};
+    use peer::drafts::{run, Met, Settings};
     use peer::library::Library;
 
     let [drafts, seed, first_draft] = peer::arguments([160, 1, 0]);
@@ -20,28 +20,7 @@ fn main() -> std::process::ExitCode {
         all_places: true,
         trace: std::env::var_os("PEER_TRACE").is_some(),
     };
-    match run(&settings, &Library) {
-        Err(difference) => {
-            print!("{difference}");
-            std::process::ExitCode::FAILURE
-        }
-        Ok(met) => judge(&met),
-    }
-}
-
-/// Prints what was met; it must be enough.
-#[cfg(rd_lib)]
-fn judge(met: &peer::drafts::Met) -> std::process::ExitCode {
-    print!("{met}");
-    println!("no difference");
-    let missing = met.missing();
-    if missing.is_empty() {
-        return std::process::ExitCode::SUCCESS;
-    }
-    for what in missing {
-        eprintln!("the calls did not include {what}");
-    }
-    std::process::ExitCode::FAILURE
+    peer::ended(run(&settings, &Library), "calls", Met::missing)
 }
 
 #[cfg(not(rd_lib))]

@@ -9,7 +9,7 @@
 #[cfg(rd_lib)]
 fn main() -> std::process::ExitCode {
     use peer::library::Library;
-    use peer::lines::{run, Settings};
+    use peer::lines::{run, Met, Settings};
 
     let [answers, seed] = peer::arguments([20_000, 1]);
     let settings = Settings {
@@ -17,28 +17,7 @@ fn main() -> std::process::ExitCode {
         answers,
         trace: std::env::var_os("PEER_TRACE").is_some(),
     };
-    match run(&settings, &Library) {
-        Err(difference) => {
-            print!("{difference}");
-            std::process::ExitCode::FAILURE
-        }
-        Ok(met) => judge(&met),
-    }
-}
-
-/// Prints what was met; it must be enough.
-#[cfg(rd_lib)]
-fn judge(met: &peer::lines::Met) -> std::process::ExitCode {
-    print!("{met}");
-    println!("no difference");
-    let missing = met.missing();
-    if missing.is_empty() {
-        return std::process::ExitCode::SUCCESS;
-    }
-    for what in missing {
-        eprintln!("the answers did not include {what}");
-    }
-    std::process::ExitCode::FAILURE
+    peer::ended(run(&settings, &Library), "answers", Met::missing)
 }
 
 #[cfg(not(rd_lib))]

@@ -21,25 +21,6 @@ fn main() -> ExitCode {
         images,
     };
     let process = Process(program);
-    match run(&settings, &|image| process.text(image)) {
-        Err(difference) => {
-            print!("{difference}");
-            ExitCode::FAILURE
-        }
-        Ok(met) => judge(&met),
-    }
-}
-
-/// Prints what was met; it must be enough.
-fn judge(met: &Met) -> ExitCode {
-    print!("{met}");
-    println!("no difference");
-    let missing = met.missing();
-    if missing.is_empty() {
-        return ExitCode::SUCCESS;
-    }
-    for what in missing {
-        eprintln!("the images did not include {what}");
-    }
-    ExitCode::FAILURE
+    let ran = run(&settings, &|image| process.text(image));
+    peer::ended(ran, "images", Met::missing)
 }
