@@ -232,9 +232,52 @@ def long_chain():
     )
 
 
+def turns(parity):
+    """One task of 1,024 jobs of one tick, in the even or the odd ticks of one window."""
+    pieces = [dict(job=k, start=2 * k + parity) for k in range(1024)]
+    return encoded(2048, **ONE_CORE, task=[task(2)], window=[dict(length=2048)], piece=pieces)
+
+
+def even_ticks():
+    return turns(0)
+
+
+def odd_ticks():
+    return turns(1)
+
+
+def at_once(order):
+    """64 streams in an order, each on a link of its own, whose frames of one job all start in one tick: 512 frames, 8 jobs."""
+    period, cycle = 200, 1600
+    nodes = two_nodes(cycle)
+    nodes["link"] = [dict(from_node=0, to_node=1)] * 64
+    sent = [dict(task=stream, job=k, start=k * period + stream) for k in range(8) for stream in range(64)]
+    got = [dict(task=64 + stream, job=k, start=k * period + 67 + stream) for k in range(8) for stream in range(64)]
+    return encoded(
+        cycle,
+        **nodes,
+        task=[task(period, vcpu=number // 64, cores=3) for number in range(128)],
+        piece=sent + got,
+        stream=[dict(sender=number, receiver=64 + number) for number in order],
+        frame=[dict(stream=row, job=k, link=number, start=k * period + 64) for k in range(8) for row, number in enumerate(order)],
+    )
+
+
+def at_once_rising():
+    return at_once(range(64))
+
+
+def at_once_falling():
+    return at_once(range(63, -1, -1))
+
+
 SIZED = [pieces, one_core, eight_cores]
 HARD = [many_jobs, windows, overlapping, empty, one_job, unit_jobs, last_window, long_buffers, one_buffer, one_number, refused_late]
-SHAPES = [*HARD, diamond, long_chain, *SIZED]
+PAIRED = [even_ticks, odd_ticks, at_once_rising, at_once_falling]
+SHAPES = [*HARD, diamond, long_chain, *PAIRED, *SIZED]
+
+
+NAMES = [make.__name__ for make in SHAPES]
 
 
 def image(shape, *size):

@@ -2,6 +2,7 @@
  * load_tool - what a load tool does with a plan image, whole.
  *
  *     load_tool [-c CYCLE] [-n CYCLES] [FILE]
+ *     load_tool [-c CYCLE] [-n CYCLES] [-o OUT] -s SHARED FIRST SECOND
  *
  * Reads a plan image from FILE or standard input, checks it and prints the
  * answer as `number table row`. A refused plan ends there, with the answer in
@@ -10,6 +11,11 @@
  * starts every lane in cycle CYCLE (0), steps all lanes through CYCLES (2)
  * cycles, and prints `cycle tick lane kind row` wherever a lane shows
  * something else than at the tick before.
+ *
+ * With -s it joins two images, the first SHARED tasks being the same in both,
+ * and goes on with the joined one. After the answer it prints the joined
+ * image's length, 0 where there is none, and asks rd_check about its bytes.
+ * OUT gets the joined image, a refused one too.
  *
  *     gcc -std=c99 -Iinclude -o load_tool examples/load_tool.c target/staticlib/libreaperdecade.a
  */
@@ -101,6 +107,28 @@ static struct bytes read_all(FILE *from)
         fail("read");
     }
     return b;
+}
+
+static struct bytes read_file(const char *name)
+{
+    struct bytes b;
+    FILE *from = fopen(name, "rb");
+
+    if (from == NULL) {
+        fail(name);
+    }
+    b = read_all(from);
+    fclose(from);
+    return b;
+}
+
+static void write_file(const char *name, const struct bytes *b)
+{
+    FILE *to = fopen(name, "wb");
+
+    if (to == NULL || fwrite(b->at, 1, b->length, to) != b->length || fclose(to) != 0) {
+        fail(name);
+    }
 }
 
 /* Builds a lane's table after those that are there. Gives 0 where the lane is past the last one. */
@@ -217,6 +245,43 @@ static void run(struct tables *t, uint64_t cycles)
     free(before);
 }
 
+/* Checks a plan and prints the answer. */
+static uint64_t check(const struct bytes *image)
+{
+    uint64_t answer = rd_check(image->at, image->length);
+
+    print_answer(answer);
+    return answer;
+}
+
+/* Joins the second plan to the first and prints the answer and the joined image's length. Gives the answer. */
+static uint64_t join(const struct bytes *first, const struct bytes *second, uint32_t shared, struct bytes *joined)
+{
+    uint32_t length;
+    uint64_t answer;
+
+    make_room(joined, RD_IMAGE_BYTES);
+    answer = rd_join(first->at, first->length, second->at, second->length, shared, joined->at, joined->room, &length);
+    joined->length = length;
+    print_answer(answer);
+    printf("joined: %" PRIu32 " bytes\n", length);
+    if (length != 0 && rd_check(joined->at, joined->length) != answer) { /* it is the joined image's own answer */
+        errno = 0;
+        fail("join");
+    }
+    return answer;
+}
+
+/* Builds all lanes of an accepted plan and steps them. */
+static void load_and_run(const struct bytes *image, uint64_t cycle, uint64_t cycles)
+{
+    struct tables t = load(image, cycle);
+
+    run(&t, cycles);
+    free(t.words.at);
+    free(t.states.at);
+}
+
 static uint64_t number_of(const char *text)
 {
     char *end;
@@ -230,44 +295,101 @@ static uint64_t number_of(const char *text)
     return n;
 }
 
+static uint32_t word_of(const char *text)
+{
+    uint64_t n = number_of(text);
+
+    if (n > UINT32_MAX) {
+        errno = ERANGE;
+        fail(text);
+    }
+    return (uint32_t)n;
+}
+
+/* What the command line asks for: to load the first plan (NULL for standard input), or to join the second to it. */
+struct options {
+    uint64_t cycle;
+    uint64_t cycles;
+    int joins;
+    uint32_t shared;
+    const char *first;
+    const char *second;
+    const char *out;
+};
+
+/* Takes an option and its value. Gives 0 where there is no such option. */
+static int take_option(struct options *o, const char *name, const char *value)
+{
+    if (strcmp(name, "-c") == 0) {
+        o->cycle = number_of(value);
+    } else if (strcmp(name, "-n") == 0) {
+        o->cycles = number_of(value);
+    } else if (strcmp(name, "-o") == 0) {
+        o->out = value;
+    } else if (strcmp(name, "-s") == 0) {
+        o->joins = 1;
+        o->shared = word_of(value);
+    } else {
+        return 0;
+    }
+    return 1;
+}
+
+/* Gives 0 where the command line is wrong. */
+static int read_options(int argc, char **argv, struct options *o)
+{
+    int i = 1;
+
+    while (i + 1 < argc && argv[i][0] == '-') {
+        if (!take_option(o, argv[i], argv[i + 1])) {
+            return 0;
+        }
+        i += 2;
+    }
+    if (i < argc && argv[i][0] == '-') {
+        return 0;
+    }
+    o->first = i < argc ? argv[i] : NULL;
+    o->second = i + 1 < argc ? argv[i + 1] : NULL;
+    return o->joins ? argc - i == 2 : argc - i <= 1 && o->out == NULL;
+}
+
+/* The plan to load: the first, or the two joined. Gives the answer about it. */
+static uint64_t take_plan(const struct options *o, struct bytes *plan)
+{
+    struct bytes first = o->first != NULL ? read_file(o->first) : read_all(stdin);
+    struct bytes second;
+    uint64_t answer;
+
+    if (!o->joins) {
+        *plan = first;
+        return check(plan);
+    }
+    second = read_file(o->second);
+    answer = join(&first, &second, o->shared, plan);
+    if (o->out != NULL && plan->length != 0) {
+        write_file(o->out, plan);
+    }
+    free(first.at);
+    free(second.at);
+    return answer;
+}
+
 int main(int argc, char **argv)
 {
-    uint64_t cycle = 0;
-    uint64_t cycles = 2;
-    FILE *from = stdin;
-    struct bytes image;
-    struct tables t;
+    struct options o = { 0, 2, 0, 0, NULL, NULL, NULL };
+    struct bytes plan = { NULL, 0, 0 };
     uint64_t answer;
-    int i;
 
-    for (i = 1; i + 1 < argc && argv[i][0] == '-'; i += 2) {
-        if (strcmp(argv[i], "-c") == 0) {
-            cycle = number_of(argv[i + 1]);
-        } else if (strcmp(argv[i], "-n") == 0) {
-            cycles = number_of(argv[i + 1]);
-        } else {
-            break;
-        }
-    }
-    if (i < argc - 1 || (i < argc && argv[i][0] == '-')) {
-        fprintf(stderr, "usage: load_tool [-c CYCLE] [-n CYCLES] [FILE]\n");
+    if (!read_options(argc, argv, &o)) {
+        fprintf(stderr, "usage: load_tool [-c CYCLE] [-n CYCLES] [FILE]\n"
+                        "       load_tool [-c CYCLE] [-n CYCLES] [-o OUT] -s SHARED FIRST SECOND\n");
         return 2;
     }
-    if (i < argc) {
-        from = fopen(argv[i], "rb");
-        if (from == NULL) {
-            fail(argv[i]);
-        }
-    }
-    image = read_all(from);
-    answer = rd_check(image.at, image.length);
-    print_answer(answer);
+    answer = take_plan(&o, &plan);
     if (answer == 0) {
-        t = load(&image, cycle);
-        run(&t, cycles);
-        free(t.words.at);
-        free(t.states.at);
+        load_and_run(&plan, o.cycle, o.cycles);
     }
-    free(image.at);
+    free(plan.at);
     return answer == 0 ? 0 : 1;
 }

@@ -1,7 +1,7 @@
 /*
  * reaperdecade.h - check tunnel plans, say the answer in words, build their
- * dispatch tables, step them; tell when their frames arrive; edit their pieces
- * in drafts.
+ * dispatch tables, step them; tell when their frames arrive; join two plans to
+ * one; edit their pieces in drafts.
  *
  * The functions of libreaperdecade.a, for C99 and later and for C++. Each of
  * them is proved to meet its contract: its result and every byte that it
@@ -21,7 +21,9 @@
  *
  * Refusals. Input of any length and any content is taken. A call that refuses
  * it says why by its number and changes no byte. (rd_line alone gives no number
- * but a length, and 0 where it writes nothing.)
+ * but a length, and 0 where it writes nothing. rd_join alone asks its last
+ * questions of what it has written, so that their refusal leaves the joined
+ * image in the buffer; and it writes *length at every call.)
  */
 #ifndef REAPERDECADE_H
 #define REAPERDECADE_H
@@ -215,6 +217,55 @@ uint32_t rd_step_all(const uint8_t *words, size_t words_len, uint8_t *states, si
  * where there is no such frame; 26 where there are fewer than two words.
  */
 uint64_t rd_arrivals(const uint8_t *image, size_t image_len, uint32_t frame, uint8_t *ticks, size_t ticks_len);
+
+/*
+ * Joins two plans to one, so that a machine can change between two modes without
+ * changing its tables: the first plan whole, with what the second adds to it.
+ * Asks the check's questions of the first, then of the second; then 35 (do H,
+ * P, cores, VCPUs, windows and links agree, row by row and word by word?), 36
+ * (have both plans at least `shared` tasks, and are the first so many equal,
+ * word by word?) and 37 (has no table too many rows, and do the lent bytes
+ * suffice?); then the check's questions of the joined image.
+ *
+ * first      first_len bytes, which are only read.
+ * second     second_len bytes, which are only read; may be the first's own.
+ * shared     how many leading rows of the task table both plans share; any. 0
+ *            where they share none.
+ * joined     joined_len bytes, which overlap neither input; RD_IMAGE_BYTES
+ *            always suffice.
+ * length     a uint32_t, not null, aligned as such and apart from all of these.
+ *            It is written at every call.
+ *
+ * Gives the first answer that is not 0, or 0 where every question is answered
+ * yes.
+ * Where both inputs are accepted and 35 to 37 are answered yes, writes the
+ * joined image from the first byte on, and its length to *length; later bytes
+ * are left as they were. This is so whatever the answer: a refusal is then one
+ * of the joined image, its row is one there, and rd_check of the *length bytes
+ * gives that answer again.
+ * Else *length is 0 and no byte of joined is written. 35 to 37 have table and
+ * row 0; another refusal is the first's own where rd_check refuses the first,
+ * else the second's. So *length tells whether there is a joined image, and the
+ * answer whether it is accepted.
+ *
+ * The joined plan. Task t of the second keeps its number where t is below
+ * shared; the others come after the first's tasks, in their order. Pieces,
+ * streams, buffers and chains of the second get these task numbers, and frames
+ * the numbers of their streams in the joined plan. Such a row that then equals
+ * one of the first is that row, the lowest such; the others are appended, in
+ * their order. Then pieces and frames are put in the order of question 32, so
+ * rows of the first may have other numbers there.
+ * In an accepted result every task of either plan works in the same ticks as in
+ * its own plan, and nothing else works.
+ *
+ * The worst pair of plans that we know takes 10 million instructions, three
+ * checks among them. A call takes 48 kB of the stack.
+ */
+uint64_t rd_join(const uint8_t *first, size_t first_len, const uint8_t *second, size_t second_len, uint32_t shared, uint8_t *joined,
+                 size_t joined_len, uint32_t *length);
+
+/* No image that passes question 1 is longer. */
+#define RD_IMAGE_BYTES 64860
 
 /*
  * Drafts. A draft is a row of words made from an image, in which pieces are

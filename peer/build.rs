@@ -8,7 +8,7 @@
 use std::path::Path;
 use std::process::Command;
 
-const FUNCTIONS: [&str; 15] = [
+const FUNCTIONS: [&str; 16] = [
     "rd_check",
     "rd_build",
     "rd_build_all",
@@ -24,6 +24,7 @@ const FUNCTIONS: [&str; 15] = [
     "rd_draft_core",
     "rd_draft_place",
     "rd_line",
+    "rd_join",
 ];
 
 fn main() {

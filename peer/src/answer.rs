@@ -24,6 +24,12 @@ impl Answer {
         Answer { number, table, row }
     }
 
+    /// The answer of one number, as at the C boundary.
+    pub const fn of_code(code: u64) -> Answer {
+        let low = code as u32;
+        Answer::at(low & 0xFFFF, low >> 16, (code >> 32) as u32)
+    }
+
     /// Whether this is the answer 0 0 0.
     pub fn is_accepted(self) -> bool {
         self == Answer::ACCEPTED

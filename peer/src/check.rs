@@ -53,7 +53,7 @@ fn wide(word: u32) -> u64 {
 }
 
 /// Asks a question that has no bracket.
-fn require(number: u32, yes: bool) -> Result<(), Answer> {
+pub fn require(number: u32, yes: bool) -> Result<(), Answer> {
     if yes {
         Ok(())
     } else {

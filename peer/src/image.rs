@@ -215,6 +215,13 @@ impl Plan {
         ]
     }
 
+    /// Whether no table has more rows than it may.
+    pub fn rows_in_bounds(&self) -> bool {
+        let counts = self.counts();
+        let mut bounds = counts.iter().zip(ROW_BOUNDS);
+        bounds.all(|(&rows, (_, most))| rows <= most as usize)
+    }
+
     /// The number of lanes: cores and links.
     pub fn lanes(&self) -> usize {
         self.cores.len() + self.links.len()

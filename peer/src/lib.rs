@@ -18,6 +18,8 @@ mod histogram;
 pub mod image;
 mod intervals;
 mod jobs;
+mod join;
+pub mod joins;
 #[cfg(rd_lib)]
 pub mod library;
 mod line;
@@ -42,6 +44,7 @@ pub use dispatch::{start, step, step_all, State};
 pub use ended::ended;
 pub use histogram::Histogram;
 pub use image::Plan;
+pub use join::join;
 pub use line::{kind, line, LONGEST_LINE};
 pub use questions::{asked_before, QUESTIONS};
 pub use report::report;

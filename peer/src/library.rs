@@ -1,9 +1,10 @@
 //! The library's C functions, over slices. There where RD_LIB_DIR is set.
 
 use crate::answer::Answer;
-use crate::boundary::Boundary;
+use crate::boundary::{read_words, Boundary};
 use crate::drafts::Drafts;
-use crate::image::Piece;
+use crate::image::{Piece, Plan, WORD};
+use crate::joins::Joins;
 use crate::lines::Lines;
 
 extern "C" {
@@ -42,6 +43,16 @@ extern "C" {
     fn rd_draft_core(words: *const u32, n: usize, core: u32) -> u64;
     fn rd_draft_place(words: *const u32, n: usize, place: u32, piece: *mut u32, m: usize) -> u32;
     fn rd_line(number: u32, table: u32, row: u32, line: *mut u8, line_len: usize) -> u32;
+    fn rd_join(
+        first: *const u8,
+        first_len: usize,
+        second: *const u8,
+        second_len: usize,
+        shared: u32,
+        joined: *mut u8,
+        joined_len: usize,
+        length: *mut u32,
+    ) -> u64;
 }
 
 /// The library under test.
@@ -124,5 +135,39 @@ impl Lines for Library {
         let Answer { number, table, row } = answer;
         let (at, length) = (line.as_mut_ptr(), line.len());
         unsafe { rd_line(number, table, row, at, length) }
+    }
+}
+
+/// As many words as the tables of all lanes of any accepted plan take.
+const ALL_LANES_WORDS: usize = 31_200;
+
+impl Joins for Library {
+    fn join(
+        &self,
+        first: &[u8],
+        second: &[u8],
+        shared: u32,
+        joined: &mut [u8],
+        length: &mut [u32; 2],
+    ) -> u64 {
+        let (at, lent, length) = (joined.as_mut_ptr(), joined.len(), length.as_mut_ptr());
+        let (one, one_len) = (first.as_ptr(), first.len());
+        let (other, other_len) = (second.as_ptr(), second.len());
+        unsafe { rd_join(one, one_len, other, other_len, shared, at, lent, length) }
+    }
+
+    fn tables(&self, image: &[u8]) -> Option<Vec<Vec<u32>>> {
+        let mut bytes = vec![0; ALL_LANES_WORDS * WORD];
+        if self.build_all(image, &mut bytes) != 0 {
+            return None;
+        }
+        let words = read_words(&bytes);
+        let mut rest = &words[..];
+        let table = |_| {
+            let (table, later) = rest.split_at(2 + 3 * rest[1] as usize);
+            rest = later;
+            table.to_vec()
+        };
+        Some((0..Plan::decode(image).lanes()).map(table).collect())
     }
 }

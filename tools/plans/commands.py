@@ -4,15 +4,19 @@ import os
 import sys
 from pathlib import Path
 
+from .aligned import aligned
 from .answers import ORDER, ask, explained, line_before, lines_of, parse, question, reason
+from .columns import word
 from .files import is_text, load, plan_in, read_bytes, write_whole
 from .image import encode
+from .joinable import Mode, join, join_text
+from .joins import GROWING
 from .lateness import assumed
 from .listing import listing
 from .loads import hinders, loads
 from .ordering import in_order
 from .picture.drawing import View, near, picture
-from .troubles import Trouble, meant, trouble
+from .troubles import BadValue, Trouble, meant, trouble
 from .writing import write_text
 
 
@@ -52,6 +56,13 @@ def parser():
     command.add_argument("plan", help="image or text")
     _takes_order(command)
     _asks_checker(command, default=CHECKER)
+    command = _command(commands, "join", run_join, "join a second plan to a first, and ask the checker about both and about the result")
+    command.add_argument("first", help="image or text")
+    command.add_argument("second", help="image or text")
+    command.add_argument("out", help="text to write")
+    command.add_argument("--shared", type=a_count, required=True, metavar="N", help="so many leading tasks are the same in both plans")
+    _takes_order(command)
+    _asks_checker(command, default=CHECKER)
     command = _command(commands, "picture", run_picture, "draw a plan as SVG")
     command.add_argument("plan", help="image or text")
     command.add_argument("out", help="SVG to write, or -")
@@ -86,6 +97,13 @@ def an_answer(text):
     return parse(text)
 
 
+def a_count(text):
+    try:
+        return word(text)
+    except BadValue as bad:
+        raise argparse.ArgumentTypeError(str(bad)) from None
+
+
 def run_image(options):
     data = read_bytes(options.plan)
     if not is_text(data) and not (data and options.in_order):
@@ -108,7 +126,7 @@ def run_list(options):
 
 def run_loads(options):
     """Prints the answer, then the loads where a draft can be made from the plan, else the row that keeps it from that."""
-    data, plan = image_and_plan(options)
+    data, plan = image_and_plan(options, options.plan)
     answer = ask(options.plancheck, data)
     tell(plan, answer)
     if plan and not hinders(answer):
@@ -122,20 +140,53 @@ def run_loads(options):
 
 def run_check(options):
     """Prints the answer in words; an image that cannot be read has an answer too."""
-    data, plan = image_and_plan(options)
-    answer = ask(options.plancheck, data)
-    tell(plan, answer)
-    if plan and answer.accepted:
+    data, plan = image_and_plan(options, options.plan)
+    accepted = check(options, data, plan)
+    if plan and accepted:
         for line in assumed(plan):
             print(line)
-    elif plan:
+    return 0 if accepted else 1
+
+
+def check(options, data, plan, whose=""):
+    """Whether the checker accepts an image; tells its answer, and the row of a refused plan."""
+    answer = ask(options.plancheck, data)
+    tell(plan, answer, whose)
+    if plan and not answer.accepted:
         tell_row(plan, answer)
-    return 0 if answer.accepted else 1
+    return answer.accepted
 
 
-def tell(plan, answer):
+def run_join(options):
+    """Asks what a join asks, in its order, and writes the joined plan where that comes to be asked about."""
+    if options.out == "-":
+        raise trouble(options.out, "is no file; the answers are printed, so write the text to one")
+    modes = []
+    for path in (options.first, options.second):
+        data, plan = image_and_plan(options, path)
+        if not check(options, data, plan, f"{path}: ") or not plan:
+            print("Nothing is written: both plans have to be accepted.")
+            return 1
+        modes.append(Mode(path, plan))
+    found = join(*modes, options.shared)
+    write_whole(options.out, join_text(*modes, options.shared, found.plan).encode())
+    tell_join(*modes, found)
+    return 0 if check(options, encode(found.plan), found.plan, f"{options.out}: ") else 1
+
+
+def tell_join(first, second, found):
+    """How many rows are the first's, the second's, both's and the joined plan's, and which names of the second are others."""
+    counts = [[kind, *(len(plan.rows[kind]) for plan in (first.plan, second.plan, found.plan)), found.found[kind]] for kind in GROWING]
+    for line in aligned([["rows", "first", "second", "joined", "in both"], *(line for line in counts if line[3])], right=range(1, 5)):
+        print(f"  {line}")
+    for rename in found.renames:
+        why = f"it is that row of {first.file}" if rename.found else f"{first.file} has another {rename.old}"
+        print(f"{second.place(rename.kind, rename.row)}: {rename.kind} {rename.old} is called {rename.new}: {why}")
+
+
+def tell(plan, answer, whose=""):
     """The answer in words, and the question that it says no to."""
-    print(explained(plan, answer))
+    print(f"{whose}{explained(plan, answer)}")
     if question(answer):
         print(question(answer))
 
@@ -153,11 +204,11 @@ def tell_row(plan, answer):
         print("--in-order takes all rows in order.")
 
 
-def image_and_plan(options):
+def image_and_plan(options, path):
     """The bytes to check and the plan in them, or None where the image cannot be read."""
-    data = read_bytes(options.plan)
+    data = read_bytes(path)
     try:
-        plan = ordered(options, plan_in(options.plan, data))
+        plan = ordered(options, plan_in(path, data))
     except Trouble:
         if is_text(data):
             raise

@@ -32,10 +32,11 @@ class Names:
 def _complete(kind, names):
     """The names with generated ones in the gaps, none of them twice."""
     taken = set(names)
-    return [name or _free(f"{kind}{row}", taken) for row, name in enumerate(names)]
+    return [name or free_name(f"{kind}{row}", taken) for row, name in enumerate(names)]
 
 
-def _free(name, taken):
+def free_name(name, taken):
+    """The name, with as many _ behind it as make it another one than those taken."""
     while name in taken:
         name += "_"
     return name

@@ -5,9 +5,9 @@ from .schema import NAMED, SETTINGS, TABLES
 HEADER = "# Written from rows: an image holds no names and no comments."
 
 
-def write_text(plan):
+def write_text(plan, header=HEADER):
     """A text whose image is the plan's rows; rows that others may name have names."""
-    parts = [HEADER + "\n" + " ".join([SETTINGS.kind, *values(SETTINGS, plan.settings, plan.names)])]
+    parts = [header + "\n" + " ".join([SETTINGS.kind, *values(SETTINGS, plan.settings, plan.names)])]
     for table in TABLES:
         if plan.rows[table.kind]:
             parts.append("\n".join(aligned(row_words(plan, table))))

@@ -1,7 +1,12 @@
-"""What the tests share: the tools on the path, images from the independent generator, small plans as text."""
+"""What the tests share: the tools on the path, images from the independent generator, small plans as text, calls of the command."""
+import io
 import os
 import subprocess
 import sys
+import tempfile
+import unittest
+from collections import namedtuple
+from contextlib import redirect_stderr, redirect_stdout
 from functools import lru_cache
 from pathlib import Path
 
@@ -10,6 +15,8 @@ ROOT = TOOLS.parent
 EXAMPLES = ROOT / "examples" / "plans"
 PEER = ROOT / "peer"
 sys.path[:0] = [str(TOOLS), str(ROOT / ".ci")]
+
+from plans.commands import main
 
 SHAPES = ("bare", "units", "small", "medium", "rich", "large", "busy", "full")
 
@@ -44,3 +51,44 @@ def case_a_with(line, text):
     lines = CASE_A.splitlines()
     lines[line - 1:line] = [text]
     return "\n".join(lines) + "\n"
+
+
+Ran = namedtuple("Ran", "returncode stdout stderr")
+
+
+def run(*arguments):
+    """What a call of the command gives, without a process of its own."""
+    out, err = io.StringIO(), io.StringIO()
+    with redirect_stdout(out), redirect_stderr(err):
+        try:
+            status = main([str(argument) for argument in arguments])
+        except SystemExit as left:
+            status = left.code
+    return Ran(status, out.getvalue(), err.getvalue())
+
+
+class InFolder(unittest.TestCase):
+    """Tests with files of their own, and checkers that say what they are told to."""
+
+    def setUp(self):
+        folder = tempfile.TemporaryDirectory()
+        self.addCleanup(folder.cleanup)
+        self.folder = Path(folder.name)
+
+    def put(self, name, content):
+        path = self.folder / name
+        path.write_bytes(content if isinstance(content, bytes) else content.encode())
+        return path
+
+    def files(self):
+        return sorted(path.name for path in self.folder.iterdir())
+
+    def program(self, line):
+        """A checker that always prints this line."""
+        return self.recording(line, "/dev/null")
+
+    def recording(self, line, asked):
+        """A checker that always prints this line and keeps what it was asked in a file."""
+        path = self.put("checker", f"#!/bin/sh\ncat > '{asked}'\necho {line}\n")
+        os.chmod(path, 0o755)
+        return path

@@ -1,58 +1,14 @@
 """The command line: exit statuses, and that bad input leaves nothing behind."""
-import io
-import os
 import subprocess
 import sys
-import tempfile
 import unittest
-from collections import namedtuple
-from contextlib import redirect_stderr, redirect_stdout
-from pathlib import Path
 
-from support import CASE_A, EXAMPLES, TOOLS
-
-from plans.commands import main
+from support import CASE_A, EXAMPLES, TOOLS, InFolder, run
 
 ACCEPTED = "accepted, every question is answered yes (0 0 0)"
 
-Ran = namedtuple("Ran", "returncode stdout stderr")
 
-
-def run(*arguments):
-    """What a call of the command gives, without a process of its own."""
-    out, err = io.StringIO(), io.StringIO()
-    with redirect_stdout(out), redirect_stderr(err):
-        try:
-            status = main([str(argument) for argument in arguments])
-        except SystemExit as left:
-            status = left.code
-    return Ran(status, out.getvalue(), err.getvalue())
-
-
-class Commands(unittest.TestCase):
-    def setUp(self):
-        folder = tempfile.TemporaryDirectory()
-        self.addCleanup(folder.cleanup)
-        self.folder = Path(folder.name)
-
-    def put(self, name, content):
-        path = self.folder / name
-        path.write_bytes(content if isinstance(content, bytes) else content.encode())
-        return path
-
-    def files(self):
-        return sorted(path.name for path in self.folder.iterdir())
-
-    def program(self, line):
-        """A checker that always prints this line."""
-        return self.recording(line, "/dev/null")
-
-    def recording(self, line, asked):
-        """A checker that always prints this line and keeps what it was asked in a file."""
-        path = self.put("checker", f"#!/bin/sh\ncat > '{asked}'\necho {line}\n")
-        os.chmod(path, 0o755)
-        return path
-
+class Commands(InFolder):
     def test_the_command_itself(self):
         command = [sys.executable, TOOLS / "plan", "image", EXAMPLES / "case-a.txt", "-"]
         ran = subprocess.run(command, capture_output=True, check=True)

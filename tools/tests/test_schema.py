@@ -1,7 +1,7 @@
 """The plan paper's sizes, pinned here and nowhere else in these tests: all others take them from the schema."""
 import unittest
 
-from support import CASE_A
+from support import CASE_A, ROOT
 
 from plans.image import encode, pack
 from plans.reading import read_text
@@ -24,6 +24,9 @@ class PapersSizes(unittest.TestCase):
 
     def test_trailer_and_longest_image(self):
         self.assertEqual((TRAILER_BYTES, LONGEST), (92, 64860))
+
+    def test_the_header_has_the_longest_image(self):
+        self.assertIn(f"\n#define RD_IMAGE_BYTES {LONGEST}\n", (ROOT / "include/reaperdecade.h").read_text())
 
     def test_case_a(self):
         words = [0, 1, 2, 0, 0, 1, 10, 3, 8, 0, 0, 10, 0, 0, 2, 4, 10, 0]

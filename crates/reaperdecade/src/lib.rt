@@ -6,7 +6,10 @@ ghost use Rattle.plan.specs.Boundary.{checkNumber, buildNumber, buildBytes, sta
 ghost use Rattle.writing.specs.AllTables.{allNumber, allBytes};
 ghost use Rattle.arrivals.specs.Arrivals.{arrivalNumber, arrivalBytes};
 ghost use Rattle.texts.specs.Wording.{lineLength, lineBytes};
+ghost use lib.ListN as ListN;
+ghost use Rattle.joins.specs.Joins.{joinNumber, joinLength, joinBytes};
 ghost use Rattle.drafts.specs.Edits.{pieceOf, makeNumber, makeWords, addNumber, addWords, removeNumber, removeWords, moveNumber, moveWords, jobNumber, jobValue, coreNumber, coreValue, placeNumber, placeLeaves};
+use joining::join;
 use packing::packed;
 use plan::LaneState;
 use plan::Piece;
@@ -103,6 +106,27 @@ pub extern "C" fn rd_line(number: u32, table: u32, row: u32, line: &mut [u8]) ->
     ensures { λ r. ⌜ (r ≡ lineLength (record { number = number; table = table; row = row }) (now (line .entry))) × (now (line .exit) ≡ lineBytes (record { number = number; table = table; row = row }) (now (line .entry))) ⌝ }
 {
     wording::write_line(number, table, row, line)
+}
+
+// Joins a second plan to a first, which share their first `shared` tasks: asks the first's questions, the second's, 35 to 37, and then writes the joined
+// image and gives the check's answer about it, which may be a refusal. The length is that of the joined image, or 0 where none is written, and
+// then no byte changes. Later bytes stay as they are.
+#[no_mangle]
+pub extern "C" fn rd_join(
+    first: &[u8],
+    second: &[u8],
+    shared: u32,
+    joined: &mut [u8],
+    length: &mut u32,
+) -> u64
+    ensures { λ r. ⌜ r ≡ joinNumber (now (first .entry)) (now (second .entry)) shared (ListN.length (now (joined .entry))) ⌝ }
+    ensures { λ _. ⌜ now (joined .exit) ≡ joinBytes (now (first .entry)) (now (second .entry)) shared (now (joined .entry)) ⌝ }
+    ensures { λ _. ⌜ now (length .exit) ≡ joinLength (now (first .entry)) (now (second .entry)) shared (ListN.length (now (joined .entry))) ⌝ }
+{
+    let result = join(first, second, shared, joined);
+    *length = result.length;
+    let answer = result.answer;
+    packed(answer)
 }
 
 // Makes a draft of an image in lent words: 1 to 5, 32, 6 to 10, then 34. Gives 0, or the number of a refusal, which changes no word; no word

@@ -4,6 +4,7 @@ use std::slice::{from_raw_parts, from_raw_parts_mut};
 
 use peer::boundary::{Boundary, Peer};
 use peer::drafts::{self, Drafts};
+use peer::joins::{self, Joins};
 use peer::lines::{self, Lines};
 use peer::Answer;
 
@@ -191,4 +192,29 @@ pub unsafe extern "C" fn rd_line(
     let lines = lines::Standin(fault("RD_LINE_FAULT", lines::Fault::ALL));
     let answer = Answer::at(number, table, row);
     lines.line(answer, from_raw_parts_mut(line, line_len))
+}
+
+/// The join, wrong in the way that RD_JOIN_FAULT names, if it is set.
+///
+/// # Safety
+/// The pointers lead to so many bytes, and the last to two words, apart from
+/// each other.
+#[no_mangle]
+pub unsafe extern "C" fn rd_join(
+    first: *const u8,
+    first_len: usize,
+    second: *const u8,
+    second_len: usize,
+    shared: u32,
+    joined: *mut u8,
+    joined_len: usize,
+    length: *mut u32,
+) -> u64 {
+    let joins = joins::Standin(fault("RD_JOIN_FAULT", joins::Fault::ALL));
+    let (first, second) = (
+        from_raw_parts(first, first_len),
+        from_raw_parts(second, second_len),
+    );
+    let joined = from_raw_parts_mut(joined, joined_len);
+    joins.join(first, second, shared, joined, &mut *length.cast())
 }

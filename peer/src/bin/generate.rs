@@ -2,12 +2,13 @@
 //!
 //! Arguments: a shape (full), or `mutant`, and a seed (1). Or `text`, a seed
 //! (1) and the number (0) of an image that `texts` hands to a program. Or
-//! `draft`, a seed (1) and the number (0) of a draft of `drafts`.
+//! `draft`, a seed (1) and the number (0) of a draft of `drafts`. Or `first` or
+//! `second`, a seed (1) and the number (0) of a pair of `joins`.
 
 use std::io::{self, Write};
 
 use peer::generate::{Shape, SHAPES};
-use peer::{drafts, mutate, texts, Rng};
+use peer::{drafts, joins, mutate, texts, Rng};
 
 fn main() -> io::Result<()> {
     let mut arguments = std::env::args().skip(1);
@@ -22,6 +23,8 @@ fn image(what: &str, seed: u64, number: u64) -> Vec<u8> {
         "mutant" => mutate::mutant(rng),
         "text" => texts::image(seed, number),
         "draft" => drafts::image(seed, number),
+        "first" => joins::pair(seed, number).images[0].clone(),
+        "second" => joins::pair(seed, number).images[1].clone(),
         name => shape(name)(rng).encode(),
     }
 }
@@ -31,7 +34,7 @@ fn shape(name: &str) -> Shape {
         Some((_, shape)) => *shape,
         None => {
             let names = SHAPES.map(|(name, _)| name).join(" ");
-            panic!("shapes: {names} mutant text draft")
+            panic!("shapes: {names} mutant text draft first second")
         }
     }
 }

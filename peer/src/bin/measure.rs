@@ -1,16 +1,20 @@
 //! Calls what is to be measured, of the library and of this package, on one
-//! image.
+//! image, or joins two.
 //!
 //! Arguments: the image's file, and how long each is repeated in milliseconds
-//! (0: once, for callgrind). Prints a line for each, in a fixed order: whose,
-//! which, nanoseconds. Each is called once on a small plan first, so that what
-//! happens only once is not measured. Build with RD_LIB_DIR.
+//! (0: once, for callgrind). Or `join`, the files of two images, the number of
+//! leading tasks that they share (0), and the milliseconds. Prints a line for
+//! each, in a fixed order: whose, which, nanoseconds. Each is called once on a
+//! small plan first, so that what happens only once is not measured. Build with
+//! RD_LIB_DIR.
 
 #[cfg(rd_lib)]
 mod ops {
     use peer::boundary::{Boundary, Peer, STATE};
+    use peer::image::LONGEST;
+    use peer::joins::Joins;
     use peer::library::Library;
-    use peer::{start, step, step_all, tables, State};
+    use peer::{join, start, step, step_all, tables, State};
 
     /// What can be called on an image, with all that it needs.
     pub struct Ops {
@@ -22,6 +26,22 @@ mod ops {
     }
 
     pub type Op<'a> = (&'static str, &'static str, Box<dyn FnMut() + 'a>);
+
+    fn op<'a>(whose: &'static str, which: &'static str, call: impl FnMut() + 'a) -> Op<'a> {
+        (whose, which, Box::new(call))
+    }
+
+    /// The join of two images, with bytes for any.
+    pub fn joins<'a>(first: &'a [u8], second: &'a [u8], shared: u32) -> Vec<Op<'a>> {
+        let (mut ours, mut peers) = (vec![0; LONGEST], vec![0; LONGEST]);
+        let ours = move || {
+            Library.join(first, second, shared, &mut ours, &mut [0; 2]);
+        };
+        let peers = move || {
+            join(first, second, shared, &mut peers);
+        };
+        vec![op("ours", "join", ours), op("peer", "join", peers)]
+    }
 
     impl Ops {
         pub fn new(image: Vec<u8>) -> Ops {
@@ -44,30 +64,21 @@ mod ops {
         /// All that can be measured: of a refused image, the check and arrivals alone.
         pub fn all(&self) -> Vec<Op<'_>> {
             let mut ops = vec![
-                self.op("ours", "check", || self.check(&Library)),
-                self.op("peer", "check", || self.check(&Peer)),
-                self.op("ours", "arrivals of frame 0", || self.arrivals(&Library)),
-                self.op("peer", "arrivals of frame 0", || self.arrivals(&Peer)),
+                op("ours", "check", || self.check(&Library)),
+                op("peer", "check", || self.check(&Peer)),
+                op("ours", "arrivals of frame 0", || self.arrivals(&Library)),
+                op("peer", "arrivals of frame 0", || self.arrivals(&Peer)),
             ];
             if !self.tables.is_empty() {
-                ops.push(self.op("ours", "build of each lane", || self.build(&Library)));
-                ops.push(self.op("peer", "build of each lane", || self.build(&Peer)));
-                ops.push(self.op("ours", "build of all lanes", || self.build_all()));
-                ops.push(self.op("peer", "build of all lanes", || {
+                ops.push(op("ours", "build of each lane", || self.build(&Library)));
+                ops.push(op("peer", "build of each lane", || self.build(&Peer)));
+                ops.push(op("ours", "build of all lanes", || self.build_all()));
+                ops.push(op("peer", "build of all lanes", || {
                     assert!(tables(&self.image).is_ok());
                 }));
                 self.add_steps(&mut ops);
             }
             ops
-        }
-
-        fn op<'a>(
-            &self,
-            whose: &'static str,
-            which: &'static str,
-            call: impl FnMut() + 'a,
-        ) -> Op<'a> {
-            (whose, which, Box::new(call))
         }
 
         fn check(&self, of: &dyn Boundary) {
@@ -99,19 +110,19 @@ mod ops {
                 Library.start(0, first, state);
             }
             let mut one = bytes[..STATE].to_vec();
-            ops.push(self.op("ours", "step of one lane", move || {
+            ops.push(op("ours", "step of one lane", move || {
                 assert_eq!(Library.step(&self.words, &mut one), 0);
             }));
             let words = self.tables.concat();
             let mut states: Vec<State> = self.firsts.iter().map(|&first| start(0, first)).collect();
             let (mut one, own) = (states[0], words.clone());
-            ops.push(self.op("peer", "step of one lane", move || {
+            ops.push(op("peer", "step of one lane", move || {
                 assert_eq!(step(&own, &mut one), 0);
             }));
-            ops.push(self.op("ours", "step of all lanes", move || {
+            ops.push(op("ours", "step of all lanes", move || {
                 assert_eq!(Library.step_all(&self.words, &mut bytes), 0);
             }));
-            ops.push(self.op("peer", "step of all lanes", move || {
+            ops.push(op("peer", "step of all lanes", move || {
                 assert_eq!(step_all(&words, &mut states), 0);
             }));
         }
@@ -141,21 +152,34 @@ fn timed(call: &mut dyn FnMut(), milliseconds: u128) -> u128 {
     }
 }
 
+/// Calls once what comes before, and measures the others.
+#[cfg(rd_lib)]
+fn measure(before: Vec<ops::Op>, ops: Vec<ops::Op>, milliseconds: u128) {
+    for (_, _, mut call) in before {
+        call();
+    }
+    for (whose, which, mut call) in ops {
+        println!("{whose}\t{which}\t{}", timed(&mut call, milliseconds));
+    }
+}
+
 #[cfg(rd_lib)]
 fn main() -> std::io::Result<()> {
     let mut arguments = std::env::args().skip(1);
-    let file = arguments.next().expect("the first argument is a file");
-    let milliseconds = arguments.next().map_or(0, |text| {
-        text.parse().expect("the second argument is a number")
-    });
+    let mut next = || arguments.next();
     let small = peer::generate::small(&mut peer::Rng::new(1)).encode();
-    for (_, _, mut call) in ops::Ops::new(small).all() {
-        call();
+    let file = next().expect("the first argument is a file, or join");
+    if file == "join" {
+        let [first, second] = [0; 2].map(|_| next().expect("two files are to be joined"));
+        let (first, second) = (std::fs::read(first)?, std::fs::read(second)?);
+        let [shared, milliseconds] = peer::numbers(arguments, [0, 0]);
+        let ops = ops::joins(&first, &second, shared as u32);
+        measure(ops::joins(&small, &small, 0), ops, milliseconds.into());
+        return Ok(());
     }
-    let ops = ops::Ops::new(std::fs::read(file)?);
-    for (whose, which, mut call) in ops.all() {
-        println!("{whose}\t{which}\t{}", timed(&mut call, milliseconds));
-    }
+    let [milliseconds] = peer::numbers(arguments, [0]);
+    let (small, ops) = (ops::Ops::new(small), ops::Ops::new(std::fs::read(file)?));
+    measure(small.all(), ops.all(), milliseconds.into());
     Ok(())
 }
 

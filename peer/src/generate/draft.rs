@@ -5,7 +5,7 @@ use std::cmp::Ordering;
 use super::chains::lay_chains;
 use super::timeline::Timeline;
 use super::windows::lay_windows;
-use crate::image::{row_of, Link, Plan, ROW_BOUNDS};
+use crate::image::{row_of, Link, Plan};
 use crate::rng::Rng;
 
 /// The longest latency a stream can ask for.
@@ -120,18 +120,12 @@ impl Draft {
     /// Adds a transaction whole, or changes nothing where it does not fit.
     pub fn add(&mut self, transaction: &Transaction, rng: &mut Rng) -> bool {
         let mut draft = self.clone();
-        if draft.try_add(transaction, rng).is_some() && draft.rows_in_bounds() {
+        if draft.try_add(transaction, rng).is_some() && draft.plan.rows_in_bounds() {
             *self = draft;
             true
         } else {
             false
         }
-    }
-
-    fn rows_in_bounds(&self) -> bool {
-        let counts = self.plan.counts();
-        let mut bounds = counts.iter().zip(ROW_BOUNDS);
-        bounds.all(|(&rows, (_, most))| rows <= most as usize)
     }
 
     fn try_add(&mut self, transaction: &Transaction, rng: &mut Rng) -> Option<()> {

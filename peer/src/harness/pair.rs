@@ -3,6 +3,7 @@
 use std::fmt;
 
 use super::lent::Lent;
+use crate::answer::Answer;
 use crate::boundary::Boundary;
 
 /// The number of calls, function by function.
@@ -201,8 +202,7 @@ fn outcome(answer: &str, lent: &Lent) -> String {
 }
 
 fn answer(code: u64) -> String {
-    let (number, table, row) = (code & 0xFFFF, code >> 16 & 0xFFFF, code >> 32);
-    format!("{number} {table} {row}")
+    Answer::of_code(code).to_string()
 }
 
 fn hex(bytes: &[u8]) -> String {

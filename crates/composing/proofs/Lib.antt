@@ -1,0 +1,3 @@
+pub mod Writing
+pub mod Counting
+pub mod Fitting

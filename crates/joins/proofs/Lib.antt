@@ -1,0 +1,12 @@
+pub mod Lists
+pub mod Sorting
+pub mod Every
+pub mod Laying
+pub mod Embeds
+pub mod Reading
+pub mod Asked
+pub mod Naming
+pub mod Standing
+pub mod Telling
+pub mod Keeping
+pub mod Readback
