@@ -1,7 +1,7 @@
 -- What 37 says, by the length that was counted.
 use Prim.Native.Nat.{ℕ, _≤_, _<_}
 use mathlib.Core.Path.{_≡_, refl, sym, _∙_}
-use mathlib.Core.Bool.{Bool, true, false, true≢false}
+use mathlib.Core.Bool.{Bool, true, false, _&&_}
 use mathlib.Core.List.{List, _++_}
 use native.Mathlib.Omega.{arith}
 use lib.Dec.{leb}
@@ -27,28 +27,44 @@ module _ (a b : List ℕ) (s : ℕ) (counts : List ℕ) (n : ℕ) (h : Counted (
       go false e = absurd (d (h .exceeds e))
 
   module _ (lent : List ℕ) where
-    pub too-many : n ≡ 0 → Written a b s lent 0 lent
+    abbrev enough : Bool
+    enough = leb (length (joinedImage a b s)) (length lent)
+
+    -- 37 says no where the length is 0, and where it is more than the bytes lent
+    none-fits : n ≡ 0 → joinFits a b s (length lent) ≡ false
     unfolding joinFits
-    too-many e =
-        record {
-          fits = λ q. let f = h .fits (and-true fit (leb (length (joinedImage a b s)) (length lent)) q .0) in absurd (omega (arith, f .0, trailer-is));
-          exceeds = λ _. (refl, refl);
-        }
+    none-fits e = go (fit && enough) refl
+      where
+        go : (c : Bool) → fit && enough ≡ c → fit && enough ≡ false
+        go true q = let f = h .fits (and-true fit enough q .0) in absurd (omega (arith, f .0, trailer-is))
+        go false q = q
+
+    too-few : (n ≡ 0 → ⊥) → length lent < n → joinFits a b s (length lent) ≡ false
+    unfolding joinFits
+    too-few d l =
+        let q = counted-fits d in
+        rw (q .0, lt-leb (length (joinedImage a b s)) (length lent) (omega (arith, q .1 .0))) refl
+
+    nothing : joinFits a b s (length lent) ≡ false → Written a b s lent 0 lent
+    nothing e = record { size = rw e refl; bytes = rw e refl }
+
+    pub too-many : n ≡ 0 → Written a b s lent 0 lent
+    too-many e = nothing (none-fits e)
 
     pub too-long : (n ≡ 0 → ⊥) → length lent < n → Written a b s lent 0 lent
-    unfolding joinFits
-    too-long d l =
-        let q = counted-fits d in
-        record {
-          fits = λ z. absurd (true≢false (sym (and-true fit (leb (length (joinedImage a b s)) (length lent)) z .1) ∙ lt-leb (length (joinedImage a b s)) (length lent) (omega (arith, q .1 .0))));
-          exceeds = λ _. (refl, refl);
-        }
+    too-long d l = nothing (too-few d l)
 
     pub all-written : (n ≡ 0 → ⊥) → n ≤ length lent → (after : List ℕ) → after ≡ joinedImage a b s ++ drop (length (joinedImage a b s)) lent → Written a b s lent n after
     unfolding joinFits
     all-written d l after e =
         let q = counted-fits d in
-        record {
-          fits = λ _. (q .1 .0, e);
-          exceeds = λ z. absurd (true≢false (sym (rw (q .0, le-leb (length (joinedImage a b s)) (length lent) (omega (arith, q .1 .0))) refl) ∙ z));
-        }
+        let f : joinFits a b s (length lent) ≡ true = rw (q .0, le-leb (length (joinedImage a b s)) (length lent) (omega (arith, q .1 .0))) refl in
+        record { size = q .1 .0 ∙ sym (rw f refl); bytes = e ∙ sym (rw f refl) }
+
+-- what is written, by what 37 says
+module _ (a b : List ℕ) (s : ℕ) (lent : List ℕ) (n : ℕ) (after : List ℕ) (w : Written a b s lent n after) where
+  pub written-yes : joinFits a b s (length lent) ≡ true → (n ≡ length (joinedImage a b s)) × (after ≡ joinedImage a b s ++ drop (length (joinedImage a b s)) lent)
+  written-yes e = (rw e at (w .size), rw e at (w .bytes))
+
+  pub written-no : joinFits a b s (length lent) ≡ false → (n ≡ 0) × (after ≡ lent)
+  written-no e = (rw e at (w .size), rw e at (w .bytes))

@@ -1,7 +1,7 @@
 -- Words written into lent bytes one after another, and the layout of an image without its last word.
 use Prim.Native.Nat.{ℕ, _+_, _*_}
 use mathlib.Core.Path.{_≡_}
-use mathlib.Core.Bool.{true, false}
+use mathlib.Core.Bool.{true, false, cond}
 use mathlib.Core.List.{List, _++_, flatMap}
 use lib.ListN.{length, drop}
 use lib.Seq.{sets}
@@ -31,7 +31,7 @@ module _ (rs : Table → List (List ℕ)) where
 abbrev pub WroteLayout : List ℕ → List ℕ → ℕ → ℕ → List ℕ → Type 0
 WroteLayout counts before at next after = (rs : Table → List (List ℕ)) → Tallied rs counts → Wrote before at (layoutFrom rs 0 tables) next after
 
--- written where 37 says yes: the length, and the lent bytes afterwards
+-- written where 37 says yes: the length, or 0, and the lent bytes afterwards
 pub record Written (a b : List ℕ) (s : ℕ) (lent : List ℕ) (n : ℕ) (after : List ℕ) : Type 0 where
-  pub fits : joinFits a b s (length lent) ≡ true → (n ≡ length (joinedImage a b s)) × (after ≡ joinedImage a b s ++ drop (length (joinedImage a b s)) lent)
-  pub exceeds : joinFits a b s (length lent) ≡ false → (n ≡ 0) × (after ≡ lent)
+  pub size : n ≡ cond (joinFits a b s (length lent)) (length (joinedImage a b s)) 0
+  pub bytes : after ≡ cond (joinFits a b s (length lent)) (joinedImage a b s ++ drop (length (joinedImage a b s)) lent) lent

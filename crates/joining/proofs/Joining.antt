@@ -17,6 +17,7 @@ use Rattle.joins.proofs.Asked.{leading-says}
 use Rattle.joins.proofs.Telling.{joins-tell}
 use Rattle.pairs.specs.Pairs.{Ready}
 use Rattle.composing.specs.Composing.{Written}
+use Rattle.composing.proofs.Fitting.{written-yes, written-no}
 use Rattle.composing.proofs.Writing.{joined-some}
 
 -- an answer that is no refusal is an acceptance
@@ -57,25 +58,25 @@ module _ (a b : List ℕ) (s : ℕ) (lent : List ℕ) where
         gives-37 e q = go (joinFits a b s (length lent)) refl
           where
             go : (c : Bool) → joinFits a b s (length lent) ≡ c → Gives r after
-            go true f = absurd (some (w .fits f .0))
+            go true f = absurd (some (written-yes a b s lent n after w f .0))
               where
                 some : n ≡ length (joinedImage a b s) → ⊥
                 some z = absurd (omega (arith, joined-some a b s))
             go false f =
                 let g = refusal _ (joins-tell a b s lent .by-37 (ready .first) (ready .second) agree share f) r q in
-                (g .0, w .exceeds f .1 ∙ g .1)
+                (g .0, written-no a b s lent n after w f .1 ∙ g .1)
 
         -- an image is written, and checked
         pub gives-image : (n ≡ 0 → ⊥) → (x : Answer) → x ≡ answerOf (take (n - 0) after) → r ≡ record { answer = x; length = n } → Gives r after
         gives-image d x e q = go (joinFits a b s (length lent)) refl
           where
             go : (c : Bool) → joinFits a b s (length lent) ≡ c → Gives r after
-            go false f = absurd (d (w .exceeds f .0))
+            go false f = absurd (d (written-no a b s lent n after w f .0))
             go true f =
                 let yes = joins-tell a b s lent .goes-on (ready .first) (ready .second) agree share f in
                 let t = joins-tell a b s lent in
                 let v = t .written yes in
-                let z = w .fits f in
+                let z = written-yes a b s lent n after w f in
                 let front : take (n - 0) after ≡ joinedImage a b s =
                 ap (take (n - 0)) (z .1) ∙ take-at (joinedImage a b s) (drop (length (joinedImage a b s)) lent) (n - 0) (omega (arith, z .0)) in
                 (q ∙ sym (rw (t .of-result yes, v .0) (rw (e, front, z .0) refl)), z .1 ∙ sym (v .1))
@@ -84,7 +85,7 @@ module _ (a b : List ℕ) (s : ℕ) (lent : List ℕ) where
   written-within n after w d = go (joinFits a b s (length lent)) refl
     where
       go : (c : Bool) → joinFits a b s (length lent) ≡ c → n ≤ length after
-      go false f = absurd (d (w .exceeds f .0))
+      go false f = absurd (d (written-no a b s lent n after w f .0))
       go true f =
-          let z = w .fits f in
+          let z = written-yes a b s lent n after w f in
           omega (arith, z .0, ap length (z .1) ∙ length-append (joinedImage a b s) (drop (length (joinedImage a b s)) lent))
