@@ -1,4 +1,4 @@
--- Words written into lent bytes one after another, and the layout of an image without its last word.
+-- Words written into lent bytes one after another, row counts, and what is written.
 use Prim.Native.Nat.{ℕ, _+_, _*_}
 use mathlib.Core.Path.{_≡_}
 use mathlib.Core.Bool.{true, false, cond}

@@ -46,7 +46,7 @@ sameWords (x ∷ xs) (y ∷ ys) = eqb x y && sameWords xs ys
 unfoldable pub lowest : List (List ℕ) → List ℕ → Found
 lowest rs x = first (length rs) (λ i. sameWords (getD rs i []) x)
 
--- does none of them
+-- does none of them equal it
 unfoldable pub isNew : List (List ℕ) → List ℕ → Bool
 isNew rs x = elim (lowest rs x) [ At i ↦ false | Nothing ↦ true ]
 
