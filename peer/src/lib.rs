@@ -13,6 +13,7 @@ pub mod drafts;
 mod ended;
 mod faults;
 pub mod generate;
+pub mod guests;
 pub mod harness;
 mod histogram;
 pub mod image;

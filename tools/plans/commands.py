@@ -7,14 +7,16 @@ from pathlib import Path
 from .aligned import aligned
 from .answers import ORDER, ask, explained, line_before, lines_of, parse, question, reason
 from .columns import word
+from .comparing import compare, report
 from .files import is_text, load, plan_in, read_bytes, write_whole
 from .image import encode
-from .joinable import Mode, join, join_text
+from .joinable import join, join_text
 from .joins import GROWING
 from .lateness import assumed
 from .listing import listing
 from .loads import hinders, loads
 from .ordering import in_order
+from .pairs import PlanFile
 from .picture.drawing import View, near, picture
 from .troubles import BadValue, Trouble, meant, trouble
 from .writing import write_text
@@ -61,6 +63,11 @@ def parser():
     command.add_argument("second", help="image or text")
     command.add_argument("out", help="text to write")
     command.add_argument("--shared", type=a_count, required=True, metavar="N", help="so many leading tasks are the same in both plans")
+    _takes_order(command)
+    _asks_checker(command, default=CHECKER)
+    command = _command(commands, "compare", run_compare, "tell which VCPUs differ between two plans, and whether another one notices")
+    command.add_argument("first", help="image or text")
+    command.add_argument("second", help="image or text")
     _takes_order(command)
     _asks_checker(command, default=CHECKER)
     command = _command(commands, "picture", run_picture, "draw a plan as SVG")
@@ -157,17 +164,25 @@ def check(options, data, plan, whose=""):
     return answer.accepted
 
 
+def accepted_plans(options, *paths):
+    """The plans of files, asked about in turn; none where one is refused or cannot be read, and then no later one is asked about."""
+    plans = []
+    for path in paths:
+        data, plan = image_and_plan(options, path)
+        if not check(options, data, plan, f"{path}: ") or not plan:
+            return []
+        plans.append(PlanFile(path, plan))
+    return plans
+
+
 def run_join(options):
     """Asks what a join asks, in its order, and writes the joined plan where that comes to be asked about."""
     if options.out == "-":
         raise trouble(options.out, "is no file; the answers are printed, so write the text to one")
-    modes = []
-    for path in (options.first, options.second):
-        data, plan = image_and_plan(options, path)
-        if not check(options, data, plan, f"{path}: ") or not plan:
-            print("Nothing is written: both plans have to be accepted.")
-            return 1
-        modes.append(Mode(path, plan))
+    modes = accepted_plans(options, options.first, options.second)
+    if not modes:
+        print("Nothing is written: both plans have to be accepted.")
+        return 1
     found = join(*modes, options.shared)
     write_whole(options.out, join_text(*modes, options.shared, found.plan).encode())
     tell_join(*modes, found)
@@ -182,6 +197,18 @@ def tell_join(first, second, found):
     for rename in found.renames:
         why = f"it is that row of {first.file}" if rename.found else f"{first.file} has another {rename.old}"
         print(f"{second.place(rename.kind, rename.row)}: {rename.kind} {rename.old} is called {rename.new}: {why}")
+
+
+def run_compare(options):
+    """Asks about both plans, and tells what differs and who notices; 0 where the premises are met and no other VCPU notices."""
+    plans = accepted_plans(options, options.first, options.second)
+    if not plans:
+        print("Not compared: both plans have to be accepted.")
+        return 1
+    found = compare(*plans)
+    for line in report(found):
+        print(line)
+    return 0 if found.upheld else 1
 
 
 def tell(plan, answer, whose=""):

@@ -1,42 +1,13 @@
 """Whether two plans can be joined: questions 35 to 37, and in words what differs where one says no."""
-from dataclasses import dataclass
 from itertools import takewhile
 from pathlib import Path
 
 from .joins import AGREEING, joined
-from .model import Plan
+from .pairs import differing, other_rows, other_settings, told
 from .questions import phrase
-from .schema import BY_KIND, SETTINGS, TABLES
+from .schema import TABLES
 from .troubles import Place, Trouble, trouble
 from .writing import write_text
-
-MANY = 12  # lines; of more the last are only counted
-
-
-@dataclass(frozen=True)
-class Mode:
-    """A plan to join, and the file it comes from."""
-
-    file: str
-    plan: Plan
-
-    def rows(self, kind):
-        return self.plan.rows[kind]
-
-    def place(self, kind, row):
-        """Where the row got its words last, or the file."""
-        return [Place(self.file), *self.plan.lines(kind, row)][-1]
-
-    def title(self, kind, row):
-        """Kind, number and name of a row."""
-        name = self.plan.names.given[kind][row]
-        return f"{kind} {row} ({name})" if name else f"{kind} {row}"
-
-    def shown(self, column, row):
-        """A column's value in a row, with the number where a name may stand for it, since numbers are compared."""
-        words = words_of(column, row)
-        text = column.show(words, self.plan.names)
-        return f"{words[0]} ({text})" if column.names_rows_of and text != str(words[0]) else text
 
 
 def join(first, second, shared):
@@ -60,46 +31,15 @@ def join_text(first, second, shared, plan):
 def refuse_for(number, first, second, pairs):
     """Raises the (place, words) pairs that say no to a question, where there are any."""
     if pairs:
-        told = pairs if len(pairs) <= MANY else [*pairs[:MANY - 1], (Place(second.file), f"{len(pairs) - MANY + 1} more rows differ")]
-        raise Trouble([(Place(second.file), f"cannot be joined to {first.file} ({number}): {phrase(number)}"), *told])
+        place = Place(second.file)
+        raise Trouble([(place, f"cannot be joined to {first.file} ({number}): {phrase(number)}"), *told(pairs, place)])
 
 
 def disagreements(first, second):
     """What says no to 35: H, P, and rows of the kinds that both plans have alike."""
-    for key, ours, theirs in zip(SETTINGS.keys, first.plan.settings, second.plan.settings):
-        if ours != theirs:
-            yield Place(second.file), f"{key} {theirs}, not {ours}"
+    yield from other_settings(first, second)
     for kind in AGREEING:
-        yield from differing(first, second, kind, min(len(first.rows(kind)), len(second.rows(kind))))
-        yield from left_over(first, second, kind)
-        yield from left_over(second, first, kind)
-
-
-def left_over(mode, other, kind):
-    """The rows that a mode has more than the other."""
-    rows = len(other.rows(kind))
-    for row in range(rows, len(mode.rows(kind))):
-        yield mode.place(kind, row), f"{mode.title(kind, row)} is missing in {other.file}, which has {rows}"
-
-
-def differing(first, second, kind, rows):
-    """The first rows of a kind, so many, as far as their words differ."""
-    for row in range(rows):
-        words = "; ".join(other_words(first, second, kind, row))
-        if words:
-            yield second.place(kind, row), f"{second.title(kind, row)} differs from {first.place(kind, row)}: {words}"
-
-
-def other_words(first, second, kind, row):
-    """The values of the second's row that are not the first's."""
-    ours, theirs = first.rows(kind)[row], second.rows(kind)[row]
-    for column in BY_KIND[kind].columns:
-        if words_of(column, ours) != words_of(column, theirs):
-            yield f"{column.key} {second.shown(column, theirs)}, not {first.shown(column, ours)}"
-
-
-def words_of(column, row):
-    return [getattr(row, field) for field in column.fields]
+        yield from other_rows(first, second, kind)
 
 
 def unshared(first, second, shared):

@@ -1,4 +1,4 @@
-"""What the tests share: the tools on the path, images from the independent generator, small plans as text, calls of the command."""
+"""What the tests share: the tools on the path, images from the independent generator, small plans as text and by chance, calls of the command."""
 import io
 import os
 import subprocess
@@ -17,6 +17,8 @@ PEER = ROOT / "peer"
 sys.path[:0] = [str(TOOLS), str(ROOT / ".ci")]
 
 from plans.commands import main
+from plans.model import Plan
+from plans.schema import BY_KIND, KINDS
 
 SHAPES = ("bare", "units", "small", "medium", "rich", "large", "busy", "full")
 
@@ -51,6 +53,55 @@ def case_a_with(line, text):
     lines = CASE_A.splitlines()
     lines[line - 1:line] = [text]
     return "\n".join(lines) + "\n"
+
+
+def any_run(chance, cycle=24):
+    """A plan of windows that do not overlap on their core, and pieces in them behind their switch; rows in any order. Nothing else is right."""
+    rows = {kind: [] for kind in KINDS}
+    for _ in range(chance.randrange(1, 4)):
+        rows["core"].append(BY_KIND["core"].row(d=chance.randrange(3), v=chance.randrange(3)))
+    for vcpu in range(chance.randrange(1, 6)):
+        rows["vcpu"].append(BY_KIND["vcpu"].row(core=chance.randrange(len(rows["core"]))))
+        rows["task"] += [BY_KIND["task"].row(vcpu=vcpu)] * chance.randrange(1, 3)
+    for core in range(len(rows["core"])):
+        any_windows(chance, rows, core, cycle)
+    for kind in ("window", "piece"):
+        chance.shuffle(rows[kind])
+    return Plan((cycle, 0), rows)
+
+
+def any_windows(chance, rows, core, cycle):
+    """Windows of a core's VCPUs, and pieces in each of them."""
+    vcpus, tick = [number for number, row in enumerate(rows["vcpu"]) if row.core == core], chance.randrange(4)
+    while vcpus and tick < cycle:
+        vcpu, end = chance.choice(vcpus), min(cycle, tick + chance.randrange(4, 12))
+        rows["window"].append(BY_KIND["window"].row(vcpu=vcpu, start=tick, length=end - tick))
+        any_pieces(chance, rows, vcpu, range(tick + rows["core"][core].v, end))
+        tick = end + chance.choice((0, 0, 3))
+
+
+def any_pieces(chance, rows, vcpu, ticks):
+    """Pieces of a VCPU's tasks in these ticks, each longer than its switch."""
+    tasks, start = [number for number, row in enumerate(rows["task"]) if row.vcpu == vcpu], ticks.start + chance.randrange(3)
+    while start < ticks.stop and chance.random() < 0.8:
+        length = rows["core"][rows["vcpu"][vcpu].core].d + chance.randrange(1, 4)
+        if start + length <= ticks.stop:
+            rows["piece"].append(BY_KIND["piece"].row(task=chance.choice(tasks), job=chance.randrange(2), start=start, length=length))
+        start += length + chance.randrange(2)
+
+
+def shown_at(plan, core, tick):
+    """Kind and row that a core's lane shows at a tick, by the plan paper's words, from all rows."""
+    rows, hardware = plan.rows, plan.rows["core"][core]
+    for number, piece in enumerate(rows["piece"]):
+        if rows["vcpu"][rows["task"][piece.task].vcpu].core == core and piece.start <= tick < piece.start + piece.length:
+            return (3 if tick - piece.start < hardware.d else 4), number
+    for number, window in enumerate(rows["window"]):
+        if rows["vcpu"][window.vcpu].core == core and window.start <= tick < window.start + window.length:
+            kept = any(other.vcpu == window.vcpu and other.start + other.length == window.start for other in rows["window"])
+            charge = 0 if kept else hardware.v
+            return (1 if tick - window.start < charge else 2), number
+    return 0, 0
 
 
 Ran = namedtuple("Ran", "returncode stdout stderr")

@@ -6,10 +6,11 @@ from support import CASE_A, EXAMPLES, SHAPES, InFolder, generated, run
 
 from plans.files import load
 from plans.image import decode, encode
-from plans.joinable import MANY, Mode, join, join_text
+from plans.joinable import join, join_text
 from plans.joins import AGREEING, joined
 from plans.model import Plan
 from plans.ordering import in_order
+from plans.pairs import MANY, PlanFile
 from plans.reading import read_text
 from plans.schema import BY_KIND, KINDS
 from plans.troubles import Trouble
@@ -56,7 +57,7 @@ def text(content, name="p.txt"):
 
 
 def mode(content, name):
-    return Mode(name, text(content, name))
+    return PlanFile(name, text(content, name))
 
 
 def rows_of(plan, kind):
@@ -168,7 +169,7 @@ class Rows(unittest.TestCase):
     def test_examples(self):
         """The kept joined texts are those of the kept modes (examples/plans/run compares them too), and their images are the joined rows'."""
         for name, second in (("mode-both", "mode-night"), ("q12-modes-clash", "mode-night-early")):
-            modes = [Mode(f"{mode}.txt", example(mode)) for mode in ("mode-day", second)]
+            modes = [PlanFile(f"{mode}.txt", example(mode)) for mode in ("mode-day", second)]
             plan = join(*modes, 3).plan
             self.assertEqual(join_text(*modes, 3, plan), (EXAMPLES / f"{name}.txt").read_text())
             self.assertEqual(encode(plan), (EXAMPLES / f"{name}.image").read_bytes())

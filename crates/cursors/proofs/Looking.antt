@@ -11,9 +11,8 @@ use Rattle.plan.specs.declared.Found.the-variants.{Nothing}
 use Rattle.plan.specs.Image.{rows, cycleTicks}
 use Rattle.plan.specs.Search.{first}
 use Rattle.plan.specs.Held.{Sound}
-use Rattle.plan.proofs.Searching.{and-true, none-iff}
+use Rattle.plan.proofs.Searching.{and-true, none-iff, first-is}
 use Rattle.plan.proofs.Facts.{Facts}
-use Rattle.plan.proofs.Shows.{first-is}
 use Rattle.places.specs.declared.Occupant.{Occupant}
 use Rattle.places.specs.Places.{tableFor, placeOf, fromOf, toOf, NextRow}
 use Rattle.cursors.specs.Taken.{covers, takenBy, Cursor, Current, TakenFrom, FreeFrom}

@@ -15,8 +15,7 @@ use Rattle.plan.specs.declared.Found.{Found}
 use Rattle.plan.specs.declared.Found.the-variants.{At, Nothing}
 use Rattle.plan.specs.Image.{shape, rows, field}
 use Rattle.joins.specs.Joins.{below, rowBy, rowsBy, rowWords, rowsOf, sameWords, lowest, isNew, newRows}
-use Rattle.plan.proofs.Searching.{and-true}
-use Rattle.plan.proofs.Shows.{first-at}
+use Rattle.plan.proofs.Searching.{and-true, first-at}
 
 module _ {A : Type 0} (d : A) (f : ℕ → A) where
   pub below-long : (n : ℕ) → length (below n f) ≡ n

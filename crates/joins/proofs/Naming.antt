@@ -14,7 +14,7 @@ use Rattle.plan.specs.declared.Found.{Found}
 use Rattle.plan.specs.declared.Found.the-variants.{At, Nothing}
 use Rattle.plan.specs.Image.{rows}
 use Rattle.plan.specs.Search.{count}
-use Rattle.plan.proofs.Shows.{first-at}
+use Rattle.plan.proofs.Searching.{first-at}
 use Rattle.plan.proofs.Counting.{count-next}
 use Rattle.plan.proofs.Tests.{no-count}
 use Rattle.joins.specs.Joins

@@ -14,8 +14,7 @@ use Rattle.plan.specs.declared.Found.{Found}
 use Rattle.plan.specs.declared.Found.the-variants.{At, Nothing}
 use Rattle.plan.specs.Image.{tables, shape, trailerBytes, mostBytes, cycleTicks, precision, rows, field, piece, stream, frame, buffer, chain, image}
 use Rattle.plan.specs.Questions.{answerOf, accepted}
-use Rattle.plan.proofs.Searching.{and-true, count-most}
-use Rattle.plan.proofs.Shows.{first-at}
+use Rattle.plan.proofs.Searching.{and-true, count-most, first-at}
 use Rattle.plan.proofs.Facts.{facts, chain-facts}
 use Rattle.plan.proofs.Sounds.{accepted-sound}
 use Rattle.joins.specs.Joins

@@ -3,11 +3,11 @@ use Prim.Native.Nat.{ℕ, zero, suc, _+_, _-_, _*_, _^_, _≤_, _<_, min}
 use mathlib.Core.Path.{_≡_, refl, sym, ap, subst, _∙_}
 use mathlib.Core.List.{List, _∷_, _++_, [], flatMap, append-nil, append-assoc}
 use native.Mathlib.Omega.{arith}
-use lib.ListN.{length, take, drop, replicate, length-take, length-drop, take-append-drop}
+use lib.ListN.{length, getD, take, drop, replicate, length-take, length-drop, take-append-drop}
 use lib.Seq.{take-all, take-add, take-append-seam}
 use Rattle.plan.specs.Questions.{answerOf, accepted}
 use Rattle.plan.specs.Dispatch.{lanes, tableOf, startState, startsAt}
-use Rattle.plan.specs.Boundary.{bytesOf, wordsOf, stateBytes, answerNumber, checkNumber}
+use Rattle.plan.specs.Boundary.{bytesOf, wordsOf, stateOf, stateBytes, answerNumber, checkNumber}
 use Rattle.plan.specs.Runs.{Call, allLanes, oneLane, gives, after, recordShows, Named, Ready}
 use Rattle.plan.specs.declared.Answer.{Answer}
 use Rattle.plan.specs.declared.LaneState.{LaneState}
@@ -18,8 +18,8 @@ use Rattle.words.proofs.Words.{Fit, words-row, words-drop}
 use Rattle.writing.proofs.Tables.{table-length}
 use Rattle.writing.proofs.Fitting.{table-fits}
 use Rattle.loading.specs.Loaded.{Loaded, shownBytes, rowBytes, givesBytes, afterBytes, Demand3ThroughC}
-use Rattle.loading.proofs.States.{InWidth, AllInWidth}
-use Rattle.loading.proofs.Runs.{AllAmong, append-row, shown-at, calls-long, calls-of-bytes}
+use Rattle.loading.proofs.States.{InWidth, AllInWidth, round-trip}
+use Rattle.loading.proofs.Runs.{AllAmong, words-of, width-at, append-row, record-at, shown-at, calls-long, calls-of-bytes, calls-kept}
 
 -- ---- words that bytes stand for
 
@@ -92,14 +92,14 @@ zero-accepted a e =
     λ i. record { number = n i; table = t i; row = r i }
 
 module _ (s ws row : List ℕ) (c : ℕ) (first : ℕ → ℕ) (g : Loaded s ws row c first) where
-  plan : answerOf s ≡ accepted
+  pub plan : answerOf s ≡ accepted
   unfolding checkNumber
   plan = zero-accepted (answerOf s) (g .plan)
 
   abbrev states : List LaneState
   states = startsAt first c (lanes s)
 
-  ready : Ready s (wordsOf ws) states c
+  pub ready : Ready s (wordsOf ws) states c
   ready =
       record {
         plan = plan;
@@ -126,6 +126,17 @@ module _ (s ws row : List ℕ) (c : ℕ) (first : ℕ → ℕ) (g : Loaded s ws 
     rows-are earlier later q =
         let k = subst (λ (x : List Call). AllAmong (length states) x) q among in
         ap (λ (b : List ℕ). afterBytes ws b earlier) is-row ∙ calls-of-bytes ws (g .bytes) earlier states allLanes width (among-left _ earlier later k) tt .0
+
+    -- a lane's record, read, is the lane's state
+    pub record-is : (earlier later : List Call) → calls ≡ earlier ++ later → (l : ℕ) → l < lanes s
+        → stateOf (take 28 (drop (28 * l) (afterBytes ws row earlier))) ≡ getD (after (wordsOf ws) states earlier) l none
+    record-is earlier later q l k =
+        let m = subst (λ (x : List Call). AllAmong (length states) x) q among in
+        let n : l < length (after (wordsOf ws) states earlier) = omega (arith, calls-long ws earlier states, starts-many first c (lanes s)) in
+        let w = calls-kept ws (g .bytes) earlier states width (among-left _ earlier later m) in
+        ap (λ (b : List ℕ). stateOf (take 28 (drop (28 * l) b))) (rows-are earlier later q)
+        ∙ ap stateOf (record-at (after (wordsOf ws) states earlier) l n)
+        ∙ round-trip (getD (after (wordsOf ws) states earlier) l none) (width-at (wordsOf ws) (words-of ws (g .bytes)) (after (wordsOf ws) states earlier) l w n)
 
     pub numbers-are : (earlier : List Call) (call : Call) (later : List Call) → calls ≡ earlier ++ call ∷ later
         → givesBytes ws (afterBytes ws row earlier) call ≡ gives (wordsOf ws) (after (wordsOf ws) states earlier) call

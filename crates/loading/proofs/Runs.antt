@@ -29,10 +29,10 @@ none = startState 0 0
 
 -- ---- a step keeps a state's fields in their widths
 
-abbrev AreWords : List ℕ → Type 0
+abbrev pub AreWords : List ℕ → Type 0
 AreWords words = (i : ℕ) → getD words i 0 < 2 ^ 32
 
-words-of : (b : List ℕ) → AreBytes b → AreWords (wordsOf b)
+pub words-of : (b : List ℕ) → AreBytes b → AreWords (wordsOf b)
 unfolding wordAt
 words-of b h i = go (decLt i (length b / 4))
   where
@@ -108,7 +108,7 @@ module _ (words : List ℕ) (narrow : AreWords words) where
       go true = map-kept sts w
       go false = w
 
-  width-at : (sts : List LaneState) (l : ℕ) → AllInWidth sts → l < length sts → InWidth (getD sts l none)
+  pub width-at : (sts : List LaneState) (l : ℕ) → AllInWidth sts → l < length sts → InWidth (getD sts l none)
   width-at [] l w h = absurd (not-suc-le-zero h)
   width-at (st ∷ sts) zero w h = w .0
   width-at (st ∷ sts) (suc l) w h = width-at sts l (w .1) (le-of-suc-le-suc h)
@@ -234,3 +234,10 @@ module _ (ws : List ℕ) (b : AreBytes ws) where
       rw
       (call-of-bytes sts d w (hs .0) .1)
       (calls-of-bytes cs (leaves (wordsOf ws) sts d) c (call-kept sts d w (hs .0)) (subst (λ (n : ℕ). AllAmong n cs) (sym e) (hs .1)) (subst (λ (n : ℕ). Among n c) (sym e) h))
+
+  -- and the states' fields stay in their widths
+  pub calls-kept : (cs : List Call) (sts : List LaneState) → AllInWidth sts → AllAmong (length sts) cs → AllInWidth (after (wordsOf ws) sts cs)
+  unfolding after
+  calls-kept [] sts w hs = w
+  calls-kept (d ∷ cs) sts w hs =
+      calls-kept cs (leaves (wordsOf ws) sts d) (call-kept sts d w (hs .0)) (subst (λ (n : ℕ). AllAmong n cs) (sym (call-long ws sts d)) (hs .1))

@@ -13,7 +13,7 @@ use Rattle.plan.specs.Image.{shape, rows, cycleTicks, piece, window, mostPieces
 use Rattle.plan.specs.Questions.{answerOf, accepted, switchTicks, charge}
 use Rattle.plan.specs.Dispatch.{Shown, show, pieceAt, windowAt, frameAt, onCore, onLink, shownAt, begins, entries, tableOf, tablesBelow}
 use Rattle.plan.proofs.Showing.{core-piece, core-window, core-idle, link-frame, link-idle}
-use Rattle.plan.proofs.Shows.{first-at}
+use Rattle.plan.proofs.Searching.{first-at}
 use Rattle.lanes.proofs.Accepted.{cycle-small}
 use Rattle.plan.proofs.Sounds.{accepted-sound}
 use Rattle.words.proofs.Words.{Fit, fit-append}

@@ -4,6 +4,7 @@ use std::slice::{from_raw_parts, from_raw_parts_mut};
 
 use peer::boundary::{Boundary, Peer};
 use peer::drafts::{self, Drafts};
+use peer::guests;
 use peer::joins::{self, Joins};
 use peer::lines::{self, Lines};
 use peer::Answer;
@@ -19,6 +20,11 @@ pub unsafe extern "C" fn rd_check(image: *const u8, image_len: usize) -> u64 {
     answer
 }
 
+/// Tables and steps, wrong in the way that RD_GUEST_FAULT names, if it is set.
+fn guests() -> guests::Standin {
+    guests::Standin(fault("RD_GUEST_FAULT", guests::Fault::ALL))
+}
+
 /// # Safety
 /// The pointers lead to so many bytes, apart from each other.
 #[no_mangle]
@@ -30,7 +36,7 @@ pub unsafe extern "C" fn rd_build(
     words_len: usize,
 ) -> u64 {
     let image = from_raw_parts(image, image_len);
-    Peer.build(image, lane, from_raw_parts_mut(words, words_len))
+    guests().build(image, lane, from_raw_parts_mut(words, words_len))
 }
 
 /// # Safety
@@ -43,14 +49,14 @@ pub unsafe extern "C" fn rd_build_all(
     words_len: usize,
 ) -> u64 {
     let image = from_raw_parts(image, image_len);
-    Peer.build_all(image, from_raw_parts_mut(words, words_len))
+    guests().build_all(image, from_raw_parts_mut(words, words_len))
 }
 
 /// # Safety
 /// The pointer leads to so many bytes.
 #[no_mangle]
 pub unsafe extern "C" fn rd_start(cycle: u64, first: u32, state: *mut u8, state_len: usize) -> u32 {
-    Peer.start(cycle, first, from_raw_parts_mut(state, state_len))
+    guests().start(cycle, first, from_raw_parts_mut(state, state_len))
 }
 
 /// # Safety
@@ -63,7 +69,7 @@ pub unsafe extern "C" fn rd_step(
     state_len: usize,
 ) -> u32 {
     let words = from_raw_parts(words, words_len);
-    Peer.step(words, from_raw_parts_mut(state, state_len))
+    guests().step(words, from_raw_parts_mut(state, state_len))
 }
 
 /// # Safety
@@ -76,7 +82,7 @@ pub unsafe extern "C" fn rd_step_all(
     states_len: usize,
 ) -> u32 {
     let words = from_raw_parts(words, words_len);
-    Peer.step_all(words, from_raw_parts_mut(states, states_len))
+    guests().step_all(words, from_raw_parts_mut(states, states_len))
 }
 
 /// # Safety

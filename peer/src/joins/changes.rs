@@ -27,6 +27,9 @@ pub const ROWS: [Change; 14] = [
     task,
 ];
 
+/// Those of them that are about messages and chains.
+pub const MESSAGES: [Change; 7] = [frame, carrier, stream, equal_streams, number, ends, chain];
+
 /// The questions that can refuse a result, and changes that lead to it.
 pub const CLASHES: [(u32, &[Change]); 5] = [
     (12, &[piece]),

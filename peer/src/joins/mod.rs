@@ -1,7 +1,7 @@
 //! Two plans joined to one (request 10) as the C function does it: pairs of
 //! images, joined by the library and by this package side by side.
 
-mod changes;
+pub(crate) mod changes;
 mod claim;
 mod crowded;
 mod faults;

@@ -1,0 +1,3 @@
+pub mod Guests
+pub mod Claim
+pub mod Cases

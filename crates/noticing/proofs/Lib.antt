@@ -1,0 +1,4 @@
+pub mod Seen
+pub mod Tools
+pub mod Begun
+pub mod Witness
