@@ -3,7 +3,6 @@ use Prim.Native.Nat.{ℕ, _≤_, _<_}
 use mathlib.Core.Path.{_≡_, refl, sym, _∙_}
 use mathlib.Core.Bool.{Bool, true, _&&_}
 use native.Mathlib.Omega.{arith}
-use native.Mathlib.Decide.{decLt}
 use lib.Dec.{leb, ltb, eqb}
 use borrow.Author.Tests.{eqb-true, eq-eqb, ltb-true, leb-true, lt-ltb, le-leb}
 use Rattle.plan.specs.declared.Found.the-variants.{At}
@@ -45,11 +44,3 @@ module _ (n : ℕ) (place from to : ℕ → ℕ) where
 
     pub covers-found : {c x i : ℕ} → Covering c x i → first n (Covers c x) ≡ At i
     covers-found {c} {x} {i} h = first-is (Covers c x) n i (h .row) (in-covers h) (λ j l e. covers-apart l (covers-in c x j (omega (arith, h .row)) e) h)
-
-    pub one-covers : {c x i j : ℕ} → Covering c x i → Covering c x j → i ≡ j
-    one-covers {c} {x} {i} {j} a b = go (decLt i j) (decLt j i)
-      where
-        go : Dec (i < j) → Dec (j < i) → i ≡ j
-        go (yes l) d = absurd (covers-apart l a b)
-        go (no l) (yes m) = absurd (covers-apart m b a)
-        go (no l) (no m) = omega arith
