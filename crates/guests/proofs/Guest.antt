@@ -2,7 +2,7 @@
 use Prim.Native.Nat.{ℕ, _+_, _<_}
 use mathlib.Core.Path.{_≡_, refl, sym, ap, _∙_, subst}
 use mathlib.Core.Logic.{_⊎_, inl, inr, _≢_}
-use mathlib.Core.Bool.{Bool, true, false, not, _&&_, cond, true≢false}
+use mathlib.Core.Bool.{true, not, _&&_, cond}
 use mathlib.Core.List.{List}
 use native.Mathlib.Omega.{arith}
 use lib.Dec.{ltb, eqb}
@@ -22,7 +22,7 @@ use Rattle.plan.proofs.Searching.{and-true}
 use Rattle.plan.proofs.Tests.{any-row, row-any}
 use Rattle.plan.proofs.Facts.{Facts}
 use Rattle.plan.proofs.Shows.{Inside, found, piece-at, bool-eq}
-use Rattle.guests.proofs.Seen.{window-at, window-found, piece-seen, window-seen, owner}
+use Rattle.guests.proofs.Seen.{not-both, window-at, window-found, piece-seen, window-seen, owner}
 
 -- ---- windows
 
@@ -161,13 +161,9 @@ module _ (s t : List ℕ) (f : Facts s) (g : Facts t) (u : ℕ) (a : HasGuest s 
   pub shown-there : Same
   shown-there = go (pieceAt s c x) (pieceAt t c x) refl refl
     where
-      shows : Found → Bool
-      shows (At i) = true
-      shows Nothing = false
-
       go : (d r : Found) → pieceAt s c x ≡ d → pieceAt t c x ≡ r → Same
       go (At i) r p q = inl (piece-there s t f g u a c x i p (owner s f c x w e i p ∙ o) .2)
-      go Nothing (At j) p q = absurd (true≢false (ap shows (sym (piece-there t s g f u b c x j q (owner t g c x (there .y) (there .at) j q ∙ owner-there) .1) ∙ p)))
+      go Nothing (At j) p q = absurd (not-both (piece-there t s g f u b c x j q (owner t g c x (there .y) (there .at) j q ∙ owner-there) .1) p)
       go Nothing Nothing p q =
           inr (
             cond (ltb x (window s w .start + charge s w)) 1 2,

@@ -18,6 +18,24 @@ use Rattle.plan.proofs.Covering.{Covering, covers-found, found-covers}
 use Rattle.plan.proofs.Showing.{core-piece, core-window, core-idle, link-frame, link-idle, link-lane}
 use Rattle.plan.proofs.Shows.{piece-at}
 
+-- ---- one row is found, or none
+
+found-one : {d : Found} {v w : ℕ} → d ≡ At v → d ≡ At w → v ≡ w
+found-one a b = ap rowOf (sym a ∙ b)
+  where
+    rowOf : Found → ℕ
+    rowOf (At i) = i
+    rowOf Nothing = 0
+
+pub not-both : {d : Found} {w : ℕ} → d ≡ At w → d ≡ Nothing → ⊥
+not-both a b = true≢false (ap some (sym a ∙ b))
+  where
+    some : Found → Bool
+    some (At i) = true
+    some Nothing = false
+
+-- ---- what is seen
+
 module _ (s : List ℕ) where
   pub piece-seen : (c x i : ℕ) → pieceAt s c x ≡ At i
       → let p = piece s i in sightOf s (onCore s c x) ≡ inJob (cond (ltb x (p .start + switchTicks s (p .task))) 3 4) (task s (p .task) .vcpu) (p .task) (p .job)
@@ -84,24 +102,13 @@ module _ (s : List ℕ) (f : Facts s) where
         later = omega (arith, q .3, h .low);
       }
 
-  found-one : {d : Found} {v w : ℕ} → d ≡ At v → d ≡ At w → v ≡ w
-  found-one a b = ap rowOf (sym a ∙ b)
-    where
-      rowOf : Found → ℕ
-      rowOf (At i) = i
-      rowOf Nothing = 0
-
   -- where no window is, nothing is shown
   pub outside-seen : (c x : ℕ) → windowAt s c x ≡ Nothing → sightOf s (onCore s c x) ≡ nothing
   unfolding sightOf show
   outside-seen c x e = go (pieceAt s c x) refl
     where
-      found : Found → Bool
-      found (At i) = true
-      found Nothing = false
-
       go : (d : Found) → pieceAt s c x ≡ d → sightOf s (onCore s c x) ≡ nothing
-      go (At i) p = absurd (true≢false (ap found (sym (around c x i p .at) ∙ e)))
+      go (At i) p = absurd (not-both (around c x i p .at) e)
       go Nothing p = rw (core-idle s c x p e) refl
 
   module _ (c x w : ℕ) (e : windowAt s c x ≡ At w) where

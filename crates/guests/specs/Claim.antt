@@ -119,6 +119,6 @@ OthersFree =
     → EqualRows s t Cores core → EqualRows s t Vcpus vcpu → EqualRows s t Tasks task → EqualRows s t Windows window → EqualRows s t Pieces piece
     → Alike s t v
 
--- and by plans that differ in VCPU v's part, which shows
+-- And there are two plans that meet them, of which VCPU v shows something else at some tick.
 abbrev pub NotEmpty : Type 0
 NotEmpty = (s : List ℕ) × (t : List ℕ) × (v : ℕ) × Alike s t v × (l : ℕ) × (x : ℕ) × (ofGuest v (sight s l x) ≢ ofGuest v (sight t l x))
