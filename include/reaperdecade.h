@@ -1,7 +1,7 @@
 /*
  * reaperdecade.h - check tunnel plans, say the answer in words, build their
- * dispatch tables, step them; tell when their frames arrive; join two plans to
- * one; edit their pieces in drafts.
+ * dispatch tables, step them; the tick timer that drives the steps; tell when
+ * frames arrive; join two plans to one; edit their pieces in drafts.
  *
  * The functions of libreaperdecade.a, for C99 and later and for C++. Each of
  * them is proved to meet its contract: its result and every byte that it
@@ -20,8 +20,9 @@
  * and is never written.
  *
  * Refusals. Input of any length and any content is taken. A call that refuses
- * it says why by its number and changes no byte. (rd_line alone gives no number
- * but a length, and 0 where it writes nothing. rd_join alone asks its last
+ * it says why by its number and changes no byte. (rd_line gives no number but a
+ * length, and 0 where it writes nothing; rd_timer_interrupt gives 0 or 1, and 0
+ * where the block has not 16 bytes. rd_join alone asks its last
  * questions of what it has written, so that their refusal leaves the joined
  * image in the buffer; and it writes *length at every call.)
  */
@@ -196,6 +197,99 @@ uint32_t rd_step(const uint8_t *words, size_t words_len, uint8_t *state, size_t 
  * lowest state that is refused, 27 or 28, and writes nothing.
  */
 uint32_t rd_step_all(const uint8_t *words, size_t words_len, uint8_t *states, size_t states_len);
+
+/*
+ * The tick timer. The board's timer, which drives the steps, has a 32-bit
+ * counter, which wraps, and four registers of one word each. A block is their
+ * 16 bytes:
+ *
+ *     byte   0   4 bytes   count: the counter's value at the last reading; read only
+ *            4   4         compare
+ *            8   4         status: bit 0 is the match, other bits read 0
+ *           12   4         enable: bit 0 lets the match interrupt, other bits read 0
+ *
+ * The counter itself is the caller's to ask; a reading brings its value in.
+ * Nothing else does: a register read shows the count of the last reading. Ticks
+ * are the counter's here; how many of them make a tick of the plan is the
+ * board's affair.
+ *
+ * On a reading the ticks gone by are the new count less the old one, modulo
+ * 2^32. The match is set exactly if compare less the old count, modulo 2^32, is
+ * from 1 to that number; else it stays. So where fewer than 2^32 ticks pass
+ * between two readings, and compare is not written between them, the match is
+ * set exactly if the counter has come to compare since the earlier one: none is
+ * missed and none is made up. Once set it stays, until 1 is written to bit 0 of
+ * status or the block is made fresh. One that was cleared stays so until the
+ * counter comes to compare again. Clearing takes away what readings have shown,
+ * and no more: where the counter has come to compare since the last reading, the
+ * next one sets the match.
+ * A compare that is written takes the place of the old one for all ticks since
+ * the last reading. One that equals the count is come to 2^32 ticks later, and
+ * one that lies behind it by n ticks 2^32 - n later. So a loop that is as late as
+ * the distance by which it sets compare on, or later, leaves compare at or
+ * behind the count, and waits so long for its next match. The loop of
+ * examples/timer_loop.c brings the counter in no further than compare at a time,
+ * and steps once for each match: that loses no tick, however late it is, while
+ * fewer than 2^32 pass before it comes round.
+ *
+ * Any bytes of a block are taken; of status and enable only bit 0 counts. A
+ * start, a reading or a write that gives 0 leaves the other bits of both 0.
+ * A block of another length than 16 bytes has no register: 38, and no interrupt.
+ */
+#define RD_TIMER_BYTES 16
+#define RD_TIMER_COUNT 0
+#define RD_TIMER_COMPARE 4
+#define RD_TIMER_STATUS 8
+#define RD_TIMER_ENABLE 12
+
+/*
+ * Makes a block fresh: 0 everywhere. What it held before does not matter. The
+ * first reading counts from 0: make one, where the counter stands, before you
+ * set compare.
+ *
+ * Gives 0, or 38 where block_len is not 16, and then writes nothing.
+ */
+uint32_t rd_timer_start(uint8_t *block, size_t block_len);
+
+/*
+ * A reading: brings in the counter's value, any, which count then shows, and
+ * sets the match, or leaves it, as said above.
+ *
+ * Gives 0, or 38 where block_len is not 16, and then writes nothing.
+ */
+uint32_t rd_timer_reading(uint8_t *block, size_t block_len, uint32_t count);
+
+/*
+ * Reads the register at an address, 0, 4, 8 or 12; any other is refused (38).
+ *
+ * Gives number + 2^32 * value; the value is 0 where the number is not.
+ */
+uint64_t rd_timer_read(const uint8_t *block, size_t block_len, uint32_t address);
+
+static inline uint32_t rd_timer_number(uint64_t read)
+{
+    return (uint32_t)(read & 0xffffffffu);
+}
+
+static inline uint32_t rd_timer_value(uint64_t read)
+{
+    return (uint32_t)(read >> 32);
+}
+
+/*
+ * Writes a register: 38 (is the address 0, 4, 8 or 12?), then 39 (is it not
+ * that of count?). At compare any value is taken. At status 1 in bit 0 clears
+ * the match and 0 leaves it; at enable bit 0 is taken. Other bits do nothing.
+ *
+ * Gives 0, or the number of the question answered no, and then writes nothing.
+ */
+uint32_t rd_timer_write(uint8_t *block, size_t block_len, uint32_t address, uint32_t value);
+
+/*
+ * Gives 1 while the interrupt is raised, that is while match and enable are
+ * both 1, else 0; 0 too where block_len is not 16.
+ */
+uint32_t rd_timer_interrupt(const uint8_t *block, size_t block_len);
 
 /*
  * When a frame arrives, as read on the clock of the node that sends it, the

@@ -8,7 +8,7 @@
 use std::path::Path;
 use std::process::Command;
 
-const FUNCTIONS: [&str; 16] = [
+const FUNCTIONS: [&str; 21] = [
     "rd_check",
     "rd_build",
     "rd_build_all",
@@ -25,6 +25,11 @@ const FUNCTIONS: [&str; 16] = [
     "rd_draft_place",
     "rd_line",
     "rd_join",
+    "rd_timer_start",
+    "rd_timer_reading",
+    "rd_timer_read",
+    "rd_timer_write",
+    "rd_timer_interrupt",
 ];
 
 fn main() {

@@ -6,6 +6,7 @@ use crate::drafts::Drafts;
 use crate::image::{Piece, Plan, WORD};
 use crate::joins::Joins;
 use crate::lines::Lines;
+use crate::timers::Timers;
 
 extern "C" {
     fn rd_check(image: *const u8, image_len: usize) -> u64;
@@ -53,6 +54,11 @@ extern "C" {
         joined_len: usize,
         length: *mut u32,
     ) -> u64;
+    fn rd_timer_start(block: *mut u8, block_len: usize) -> u32;
+    fn rd_timer_reading(block: *mut u8, block_len: usize, count: u32) -> u32;
+    fn rd_timer_read(block: *const u8, block_len: usize, address: u32) -> u64;
+    fn rd_timer_write(block: *mut u8, block_len: usize, address: u32, value: u32) -> u32;
+    fn rd_timer_interrupt(block: *const u8, block_len: usize) -> u32;
 }
 
 /// The library under test.
@@ -169,5 +175,28 @@ impl Joins for Library {
             table.to_vec()
         };
         Some((0..Plan::decode(image).lanes()).map(table).collect())
+    }
+}
+
+// Here, too, every pointer is one that may be written through.
+impl Timers for Library {
+    fn fresh(&self, block: &mut [u8]) -> u32 {
+        unsafe { rd_timer_start(block.as_mut_ptr(), block.len()) }
+    }
+
+    fn reading(&self, block: &mut [u8], count: u32) -> u32 {
+        unsafe { rd_timer_reading(block.as_mut_ptr(), block.len(), count) }
+    }
+
+    fn read(&self, block: &mut [u8], address: u32) -> u64 {
+        unsafe { rd_timer_read(block.as_mut_ptr(), block.len(), address) }
+    }
+
+    fn write(&self, block: &mut [u8], address: u32, value: u32) -> u32 {
+        unsafe { rd_timer_write(block.as_mut_ptr(), block.len(), address, value) }
+    }
+
+    fn interrupt(&self, block: &mut [u8]) -> u32 {
+        unsafe { rd_timer_interrupt(block.as_mut_ptr(), block.len()) }
     }
 }

@@ -32,17 +32,24 @@ impl Paths {
         &self.readers[self.begins[task]..self.begins[task + 1]]
     }
 
-    /// Whether a path of messages leads from one task to another. A task is
+    /// Whether a path of messages leads from one task to another.
+    pub fn join(&self, first: u32, last: u32) -> bool {
+        self.search(first, last).0
+    }
+
+    /// The same, and how many messages were followed to find it. A task is
     /// marked when it is first reached and is never looked at again, however
     /// many paths lead to it.
-    pub fn join(&self, first: u32, last: u32) -> bool {
+    fn search(&self, first: u32, last: u32) -> (bool, usize) {
         let mut marked = vec![false; self.begins.len() - 1];
         let mut open = vec![first];
+        let mut followed = 0;
         marked[first as usize] = true;
         while let Some(task) = open.pop() {
             for &reader in self.readers_of(task) {
+                followed += 1;
                 if reader == last {
-                    return true;
+                    return (true, followed);
                 }
                 if !marked[reader as usize] {
                     marked[reader as usize] = true;
@@ -50,7 +57,7 @@ impl Paths {
                 }
             }
         }
-        false
+        (false, followed)
     }
 }
 
@@ -82,6 +89,22 @@ mod tests {
         assert_eq!(joined(1), [2, 3]);
         assert_eq!(joined(2), [3]);
         assert!(joined(3).is_empty() && joined(4).is_empty());
+    }
+
+    /// Two tasks a step, both of which write to both of the next step: 2^31
+    /// paths from task 0 in 122 messages. Where none leads to the last task,
+    /// each message is followed once, else at most once.
+    #[test]
+    fn no_message_is_followed_twice() {
+        let writes = |task: u32| [2, 3].map(|next| [task, task - task % 2 + next]);
+        let messages: Vec<[u32; 2]> = (0..62).filter(|&task| task != 1).flat_map(writes).collect();
+        let (streams, buffers) = messages.split_at(61);
+        let paths = Paths::of(&plan(65, streams, buffers));
+        assert_eq!(paths.search(0, 64), (false, messages.len()));
+        for last in 2..64 {
+            let (joined, followed) = paths.search(0, last);
+            assert!(joined && followed <= messages.len(), "{last}: {followed}");
+        }
     }
 
     /// All pairs, by products of the matrix of messages.

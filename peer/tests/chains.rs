@@ -5,7 +5,6 @@
 mod ways;
 
 use std::collections::{BTreeMap, BTreeSet};
-use std::time::{Duration, Instant};
 
 use peer::generate::{diamond, small_rich, tiny};
 use peer::image::{self, row_of, rows_of, Chain, Plan};
@@ -346,11 +345,11 @@ fn most_paths(plan: &Plan) -> u128 {
     most
 }
 
-/// Searches that follow each path would not end.
+/// Plans with many paths from task to task. That no message is followed twice
+/// is counted beside the search (`no_message_is_followed_twice`).
 #[test]
 fn paths_are_found_among_many() {
     let mut refused = 0;
-    let mut taken = Duration::ZERO;
     for case in 0..60 {
         let mut rng = Rng::for_case(26, case);
         let plan = diamond(&mut rng);
@@ -361,22 +360,19 @@ fn paths_are_found_among_many() {
                 continue;
             }
             let image = broken.encode();
-            let begin = Instant::now();
             let answer = check(&image);
-            taken += begin.elapsed();
             refused += u32::from(answer.number == 30);
             if case < 6 {
                 assert_eq!(naive::check(&image), answer);
             }
         }
     }
-    println!("{refused} refused, {taken:?} in all");
+    println!("{refused} refused");
     assert!(refused >= 300, "{refused}");
-    assert!(taken < Duration::from_secs(2), "{taken:?}");
 }
 
 /// Row after row of 64 steps, each of two messages, and a task that none of
-/// the 2^64 paths leads to.
+/// the 2^64 paths leads to: a search that follows each path does not end.
 #[test]
 fn two_to_the_64_paths() {
     let mut met = 0;
@@ -404,9 +400,7 @@ fn two_to_the_64_paths() {
             plan.chains = rows_of(&[[first, last, u32::MAX]; 31]);
             plan.chains.push(row_of(chain));
             let image = plan.encode();
-            let begin = Instant::now();
             let answer = check(&image);
-            assert!(begin.elapsed() < Duration::from_millis(500));
             assert_eq!(answer.number, number);
             assert_eq!(naive::check(&image), answer);
             if number > 0 {

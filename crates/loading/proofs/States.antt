@@ -1,5 +1,5 @@
 -- What the calls through C do, said of states: bytes hold a state, and steps of bytes are steps of the states that they hold.
-use Prim.Native.Nat.{ℕ, _+_, _*_, _/_, _%_, _^_, _<_}
+use Prim.Native.Nat.{ℕ, _+_, _*_, _/_, _^_, _<_}
 use mathlib.Core.Path.{_≡_, refl, sym, ap, _∙_}
 use mathlib.Core.Logic.{_≢_}
 use mathlib.Core.Bool.{Bool, true, false, not, cond}
@@ -15,6 +15,7 @@ use Rattle.plan.specs.Boundary.{wordsOf, bytesOf, stateOf, stateBytes, startNum
 use Rattle.loading.specs.Loaded.{rowBytes}
 use Rattle.plan.specs.declared.LaneState.{LaneState}
 use Rattle.plan.specs.declared.Stepped.{Stepped}
+use Rattle.words.proofs.Words.{low, low-word}
 use Rattle.states.proofs.Bytes.{state-length}
 use Rattle.records.proofs.Records.{started, records-cons, records-nil}
 
@@ -28,13 +29,6 @@ pub record InWidth (st : LaneState) : Type 0 where
   pub first : st .first < 2 ^ 32
   pub kind : st .kind < 2 ^ 32
   pub row : st .row < 2 ^ 32
-
--- four bytes of a number, read as a word
-abbrev low : ℕ → ℕ
-low x = x % 256 + 256 * (x / 256 % 256) + 65536 * (x / 256 / 256 % 256) + 16777216 * (x / 256 / 256 / 256 % 256)
-
-low-word : (x : ℕ) → x < 2 ^ 32 → low x ≡ x
-low-word x h = omega arith
 
 low-high : (x : ℕ) → low x + 2 ^ 32 * (x / 256 / 256 / 256 / 256) ≡ x
 low-high x = omega arith

@@ -1,38 +1,20 @@
 -- A load tool that calls rd_build_all, rd_start of each lane, and rd_step_all again and again.
-use Prim.Native.Nat.{ℕ, zero, suc, _+_, _-_, _*_, _%_, _^_, _<_}
+use Prim.Native.Nat.{ℕ, _+_, _-_, _*_, _%_, _^_, _<_}
 use mathlib.Core.Path.{_≡_, refl, ap, _∙_}
-use mathlib.Core.List.{List, _∷_, _++_, []}
+use mathlib.Core.List.{List}
 use native.Mathlib.Omega.{arith}
-use borrow.Author.Tests.{lt-ltb}
 use lib.ListN.{replicate}
 use Rattle.plan.specs.Image.{cycleTicks}
-use Rattle.plan.specs.Dispatch.{lanes, startsAt}
-use Rattle.plan.specs.Boundary.{wordsOf}
-use Rattle.plan.specs.Runs.{allLanes, steps, Named, movedBy}
-use Rattle.plan.proofs.RunLists.{run-number-all, run-moved-all}
+use Rattle.plan.specs.Dispatch.{lanes}
+use Rattle.plan.specs.Runs.{allLanes, steps}
 use Rattle.writing.specs.AllTables.{allBytes}
-use Rattle.loading.specs.Loaded.{Loaded, givesBytes, afterBytes, firstIn, startedRow}
-use Rattle.loading.proofs.Loads.{ready, numbers-are}
+use Rattle.loading.specs.Loaded.{Loaded, firstIn, startedRow}
+use Rattle.loading.proofs.Stepping.{named-more, moved-all, gives-all}
 use Rattle.loading.proofs.Calls.{can-start, all-built-loads}
 use Rattle.noticing.specs.Noticing.{Tool, tick, ToolsThere}
-use Rattle.noticing.proofs.Tools.{pos-of, tool-tick}
-
-all-named : (s : List ℕ) (n : ℕ) → Named s (replicate n allLanes ++ allLanes ∷ [])
-all-named s zero = tt
-all-named s (suc n) = all-named s n
+use Rattle.noticing.proofs.Tools.{tool-tick}
 
 module _ (s ws row : List ℕ) (c : ℕ) (first : ℕ → ℕ) (g : Loaded s ws row c first) (n l : ℕ) (k : c * cycleTicks s + n < 2 ^ 64 * cycleTicks s - 1) (h : l < lanes s) where
-  gives-0 : givesBytes ws (afterBytes ws row (replicate n allLanes)) allLanes ≡ 0
-  gives-0 =
-      numbers-are s ws row c first g (replicate n allLanes ++ allLanes ∷ []) (all-named s n) (replicate n allLanes) allLanes [] refl
-      ∙ run-number-all s (wordsOf ws) c (pos-of s ws row c first g) (startsAt first c (lanes s)) (ready s ws row c first g) (g .in-calendar) (omega arith) n
-      ∙ rw (lt-ltb (c * cycleTicks s + n) (2 ^ 64 * cycleTicks s - 1) k) refl
-
-  so-often : movedBy s (wordsOf ws) (startsAt first c (lanes s)) c (replicate n allLanes) l ≡ n
-  so-often =
-      let e = run-moved-all s (wordsOf ws) c (pos-of s ws row c first g) (startsAt first c (lanes s)) (ready s ws row c first g) (g .in-calendar) n l h in
-      omega (arith, e)
-
   stepping : Tool s l
   unfolding steps
   stepping =
@@ -44,14 +26,14 @@ module _ (s ws row : List ℕ) (c : ℕ) (first : ℕ → ℕ) (g : Loaded s ws 
         loaded = g;
         earlier = replicate n allLanes;
         last = allLanes;
-        named = all-named s n;
-        gave = gives-0;
+        named = named-more s n;
+        gave = gives-all s ws row c first g n k;
         stepped = refl;
       }
 
   stepping-tick : tick stepping ≡ n % cycleTicks s
   unfolding stepping
-  stepping-tick = tool-tick s l h stepping ∙ ap (λ (m : ℕ). m % cycleTicks s) so-often
+  stepping-tick = tool-tick s l h stepping ∙ ap (λ (m : ℕ). m % cycleTicks s) (moved-all s ws row c first g n (omega arith) l h)
 
 pub tools-there : ToolsThere
 unfolding stepping

@@ -12,17 +12,15 @@ use Rattle.plan.specs.Dispatch.{show, lanes, shownAt, startsAt}
 use Rattle.plan.specs.Boundary.{wordsOf, bytesOf, stateOf}
 use Rattle.plan.specs.Runs.{Call, gives, after, recordShows, Ready, movedBy}
 use Rattle.plan.proofs.Showing.{core-lane}
-use Rattle.plan.proofs.RunLists.{cycle-pos, named-split, run-left, run-tick}
-use Rattle.loading.specs.Loaded.{Loaded, shownBytes}
-use Rattle.loading.proofs.Loads.{plan, ready, record-is, numbers-are, shown-are}
+use Rattle.plan.proofs.RunLists.{named-split, run-left, run-tick}
+use Rattle.loading.specs.Loaded.{shownBytes}
+use Rattle.loading.proofs.Loads.{ready, record-is, numbers-are, shown-are}
+use Rattle.loading.proofs.Stepping.{pos-of}
 use Rattle.guests.specs.Guests.{Sight, nothing, inWindow, inJob, sightOf, sight, hides}
 use Rattle.guests.specs.Claim.{Alike, SameBut}
 use Rattle.guests.proofs.Unnoticed.{guests-unnoticed}
 use Rattle.noticing.specs.Noticing.{Tool, left, tick, sees, shown, UnnoticedThroughC}
 use Rattle.noticing.proofs.Seen.{shows-window, shows-job, shows-idle, isTaken, through}
-
-pub pos-of : (s ws row : List ℕ) (c : ℕ) (first : ℕ → ℕ) → Loaded s ws row c first → 1 ≤ cycleTicks s
-pos-of s ws row c first g = cycle-pos s (plan s ws row c first g)
 
 -- ---- one load tool
 

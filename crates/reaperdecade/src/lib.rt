@@ -6,6 +6,7 @@ ghost use Rattle.plan.specs.Boundary.{checkNumber, buildNumber, buildBytes, sta
 ghost use Rattle.writing.specs.AllTables.{allNumber, allBytes};
 ghost use Rattle.arrivals.specs.Arrivals.{arrivalNumber, arrivalBytes};
 ghost use Rattle.texts.specs.Wording.{lineLength, lineBytes};
+ghost use Rattle.timerblock.specs.Blocks.{blockNumber, startedBytes, readingBytes, registerNumber, writingNumber, writtenBytes, interruptWord};
 ghost use lib.ListN as ListN;
 ghost use Rattle.joins.specs.Joins.{joinNumber, joinLength, joinBytes};
 ghost use Rattle.drafts.specs.Edits.{pieceOf, makeNumber, makeWords, addNumber, addWords, removeNumber, removeWords, moveNumber, moveWords, jobNumber, jobValue, coreNumber, coreValue, placeNumber, placeLeaves};
@@ -62,6 +63,46 @@ pub extern "C" fn rd_step_all(words: &[u8], states: &mut [u8]) -> u32
     }
     move_all(words, states);
     0
+}
+
+// Makes a tick timer's block fresh: 0 everywhere. Gives 0, or 38 for a block of another length than 16, which stays as it was.
+#[no_mangle]
+pub extern "C" fn rd_timer_start(block: &mut [u8]) -> u32
+    ensures { λ r. ⌜ (r ≡ blockNumber (now (block .entry))) × (now (block .exit) ≡ startedBytes (now (block .entry))) ⌝ }
+{
+    timerblock::start(block)
+}
+
+// A reading of the tick timer: brings in the counter's value. Gives 0, or 38 as a start does.
+#[no_mangle]
+pub extern "C" fn rd_timer_reading(block: &mut [u8], count: u32) -> u32
+    ensures { λ r. ⌜ (r ≡ blockNumber (now (block .entry))) × (now (block .exit) ≡ readingBytes (now (block .entry)) count) ⌝ }
+{
+    timerblock::reading(block, count)
+}
+
+// Reads a register of the tick timer: 38. Gives number + 2^32 × value; the value is 0 in a refusal.
+#[no_mangle]
+pub extern "C" fn rd_timer_read(block: &[u8], address: u32) -> u64
+    ensures { λ r. ⌜ r ≡ registerNumber (now (block .entry)) address ⌝ }
+{
+    timerblock::read(block, address)
+}
+
+// Writes a register of the tick timer: 38, then 39. Gives 0, or the number of a refusal, which changes no byte.
+#[no_mangle]
+pub extern "C" fn rd_timer_write(block: &mut [u8], address: u32, value: u32) -> u32
+    ensures { λ r. ⌜ (r ≡ writingNumber (now (block .entry)) address) × (now (block .exit) ≡ writtenBytes (now (block .entry)) address value) ⌝ }
+{
+    timerblock::write(block, address, value)
+}
+
+// Gives 1 while the tick timer's interrupt is raised, else 0.
+#[no_mangle]
+pub extern "C" fn rd_timer_interrupt(block: &[u8]) -> u32
+    ensures { λ r. ⌜ r ≡ interruptWord (now (block .entry)) ⌝ }
+{
+    timerblock::interrupt(block)
 }
 
 // Checks an image.

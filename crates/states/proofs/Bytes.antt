@@ -1,13 +1,13 @@
 -- Numbers and states as bytes: eight bytes are two words, and a state's words stored.
 use Prim.Native.Nat.{ℕ, _+_, _*_, _/_, _%_, _^_}
-use mathlib.Core.Path.{_≡_, refl, sym, ap, _∙_}
-use mathlib.Core.List.{List, _++_, append-nil}
+use mathlib.Core.Path.{_≡_, refl, sym, _∙_}
+use mathlib.Core.List.{List, _++_}
 use native.Mathlib.Omega.{arith}
-use lib.ListN.{length, length-append, drop-of-length-le}
-use lib.Seq.{sets, sets-eq}
+use lib.ListN.{length, length-append}
+use lib.Seq.{sets}
 use Rattle.plan.specs.Boundary.{bytesOf, stateBytes}
 use Rattle.plan.specs.declared.LaneState.{LaneState}
-use Rattle.words.proofs.Bytes.{bytes-length, sets-append}
+use Rattle.words.proofs.Bytes.{bytes-length, grow, covers}
 
 -- ---- a number's bytes
 
@@ -28,15 +28,6 @@ two-words x =
     rw (a .0, b .0, c .0, d .0, e) refl
 
 -- ---- a state's bytes
-
-module _ (l : List ℕ) where
-  grow : (p v m : List ℕ) (n : ℕ) → length p ≡ n → sets l 0 p ≡ m → sets l 0 (p ++ v) ≡ sets m n v
-  grow p v m n e h =
-      let k : 0 + length p ≡ n = omega arith in
-      sets-append p v l 0 ∙ ap (λ (j : ℕ). sets (sets l 0 p) j v) k ∙ ap (λ (z : List ℕ). sets z n v) h
-
-  covers : (vs : List ℕ) → length l ≡ length vs → sets l 0 vs ≡ vs
-  covers vs e = sets-eq vs l 0 (omega arith) ∙ ap (λ (z : List ℕ). vs ++ z) (drop-of-length-le l {i = 0 + length vs} (omega arith)) ∙ append-nil vs
 
 module _ (st : LaneState) where
   pub state-length : length (stateBytes st) ≡ 28

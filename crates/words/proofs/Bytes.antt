@@ -1,11 +1,11 @@
 -- A number's bytes: how many, and stored one after another.
 use Prim.Native.Nat.{ℕ, zero, suc, _+_, _*_, _/_, _%_, _<_}
 use mathlib.Core.Path.{_≡_, refl, sym, ap, _∙_}
-use mathlib.Core.List.{List, _∷_, _++_, [], flatMap, append-assoc}
+use mathlib.Core.List.{List, _∷_, _++_, [], flatMap, append-assoc, append-nil}
 use native.Mathlib.Nat.{add-zero}
 use native.Mathlib.Omega.{arith}
-use lib.ListN.{length, set, length-append}
-use lib.Seq.{sets, set-comm}
+use lib.ListN.{length, set, length-append, drop-of-length-le}
+use lib.Seq.{sets, sets-eq, set-comm}
 use Rattle.plan.specs.Boundary.{bytesOf}
 
 -- ---- a number's bytes, and those of a row of words
@@ -60,3 +60,13 @@ sets-before (v ∷ vs) ws l i =
     let e : i + suc (length vs) ≡ suc i + length vs = omega arith in
     ap (λ (m : List ℕ). sets m (suc i) vs) (set-before ws l i (i + suc (length vs)) v (omega arith) ∙ ap (λ (k : ℕ). sets (set l i v) k ws) e)
     ∙ sets-before vs ws (set l i v) (suc i)
+
+-- bytes stored from the first on: further ones after them, and as many as there are
+module _ (l : List ℕ) where
+  pub grow : (p v m : List ℕ) (n : ℕ) → length p ≡ n → sets l 0 p ≡ m → sets l 0 (p ++ v) ≡ sets m n v
+  grow p v m n e h =
+      let k : 0 + length p ≡ n = omega arith in
+      sets-append p v l 0 ∙ ap (λ (j : ℕ). sets (sets l 0 p) j v) k ∙ ap (λ (z : List ℕ). sets z n v) h
+
+  pub covers : (vs : List ℕ) → length l ≡ length vs → sets l 0 vs ≡ vs
+  covers vs e = sets-eq vs l 0 (omega arith) ∙ ap (λ (z : List ℕ). vs ++ z) (drop-of-length-le l {i = 0 + length vs} (omega arith)) ∙ append-nil vs

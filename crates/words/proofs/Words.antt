@@ -1,5 +1,5 @@
 -- The words of a row of bytes: how many, and each; words read back from their bytes.
-use Prim.Native.Nat.{ℕ, zero, suc, _+_, _-_, _*_, _/_, _^_, _≤_, _<_}
+use Prim.Native.Nat.{ℕ, zero, suc, _+_, _-_, _*_, _/_, _%_, _^_, _≤_, _<_}
 use mathlib.Core.Path.{_≡_, refl, sym, ap, _∙_}
 use mathlib.Core.Logic.{_⊎_, inl, inr}
 use mathlib.Core.List.{List, _∷_, _++_, [], flatMap, append-assoc}
@@ -78,10 +78,17 @@ pub fit-append : (vs ws : List ℕ) → Fit vs → Fit ws → Fit (vs ++ ws)
 fit-append [] ws g h = h
 fit-append (v ∷ vs) ws g h = (g .0, fit-append vs ws (g .1) h)
 
--- are what their bytes hold
+-- four bytes of a number, read as a word
+abbrev pub low : ℕ → ℕ
+low x = x % 256 + 256 * (x / 256 % 256) + 65536 * (x / 256 / 256 % 256) + 16777216 * (x / 256 / 256 / 256 % 256)
+
+pub low-word : (x : ℕ) → x < 2 ^ 32 → low x ≡ x
+low-word x h = omega arith
+
+-- words that fit are what their bytes hold
 one-word : (w : ℕ) (l : List ℕ) → w < 2 ^ 32 → wordAt (bytesOf 4 w ++ l) 0 ≡ w
 unfolding wordAt bytesOf
-one-word w l h = omega arith
+one-word w l h = low-word w h
 
 first-row : (ws rest : List ℕ) (n : ℕ) → Fit ws → firstWords (flatMap (bytesOf 4) ws ++ rest) (length ws + n) ≡ ws ++ firstWords rest n
 unfolding flatMap

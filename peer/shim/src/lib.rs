@@ -7,6 +7,7 @@ use peer::drafts::{self, Drafts};
 use peer::guests;
 use peer::joins::{self, Joins};
 use peer::lines::{self, Lines};
+use peer::timers::{self, Timers};
 use peer::Answer;
 
 /// # Safety
@@ -223,4 +224,49 @@ pub unsafe extern "C" fn rd_join(
     );
     let joined = from_raw_parts_mut(joined, joined_len);
     joins.join(first, second, shared, joined, &mut *length.cast())
+}
+
+/// The timer, wrong in the way that RD_TIMER_FAULT names, if it is set.
+fn timers() -> timers::Standin {
+    timers::Standin(fault("RD_TIMER_FAULT", timers::Fault::ALL))
+}
+
+/// # Safety
+/// The pointer leads to so many bytes.
+#[no_mangle]
+pub unsafe extern "C" fn rd_timer_start(block: *mut u8, block_len: usize) -> u32 {
+    timers().fresh(from_raw_parts_mut(block, block_len))
+}
+
+/// # Safety
+/// The pointer leads to so many bytes.
+#[no_mangle]
+pub unsafe extern "C" fn rd_timer_reading(block: *mut u8, block_len: usize, count: u32) -> u32 {
+    timers().reading(from_raw_parts_mut(block, block_len), count)
+}
+
+/// # Safety
+/// The pointer leads to so many bytes, which may be written.
+#[no_mangle]
+pub unsafe extern "C" fn rd_timer_read(block: *mut u8, block_len: usize, address: u32) -> u64 {
+    timers().read(from_raw_parts_mut(block, block_len), address)
+}
+
+/// # Safety
+/// The pointer leads to so many bytes.
+#[no_mangle]
+pub unsafe extern "C" fn rd_timer_write(
+    block: *mut u8,
+    block_len: usize,
+    address: u32,
+    value: u32,
+) -> u32 {
+    timers().write(from_raw_parts_mut(block, block_len), address, value)
+}
+
+/// # Safety
+/// The pointer leads to so many bytes, which may be written.
+#[no_mangle]
+pub unsafe extern "C" fn rd_timer_interrupt(block: *mut u8, block_len: usize) -> u32 {
+    timers().interrupt(from_raw_parts_mut(block, block_len))
 }

@@ -6,10 +6,11 @@ use std::fmt;
 use super::aims::Memory;
 use super::calls::{Call, Outcome};
 use super::model::{Draft, PLACES};
+use crate::gave::{Gave, Numbers};
 use crate::image::Piece;
 
 /// The numbers of each call, 0 among them.
-const NUMBERS: [(&str, &[u32]); 7] = [
+const NUMBERS: [Numbers; 7] = [
     ("make", &[0, 1, 2, 3, 4, 5, 32, 6, 7, 8, 9, 10, 34]),
     ("add", &[0, 33, 5, 10, 34]),
     ("remove", &[0, 33]),
@@ -22,7 +23,7 @@ const NUMBERS: [(&str, &[u32]); 7] = [
 /// What was met.
 #[derive(Clone, Debug, Default)]
 pub struct Met {
-    numbers: BTreeMap<(&'static str, u32), u64>,
+    gave: Gave,
     /// What makes a call worth making, besides its number.
     marks: BTreeMap<&'static str, u64>,
     /// Changes by a stranger, of each kind: those that are 33 from then on, and
@@ -85,7 +86,7 @@ const MARKS: [&str; 47] = [
 
 impl Met {
     pub fn count(&mut self, call: &'static str, number: u32) {
-        *self.numbers.entry((call, number)).or_default() += 1;
+        self.gave.count(call, number);
     }
 
     pub fn mark(&mut self, what: &'static str) {
@@ -109,7 +110,7 @@ impl Met {
 
     /// All calls.
     pub fn calls(&self) -> u64 {
-        self.numbers.values().sum()
+        self.gave.total()
     }
 
     /// Changes by a stranger that gave 33, and those that did not.
@@ -124,14 +125,8 @@ impl Met {
 
     /// What should have been met and was not.
     pub fn missing(&self) -> Vec<String> {
-        let mut missing = Vec::new();
-        for (call, numbers) in NUMBERS {
-            for number in numbers {
-                if !self.numbers.contains_key(&(call, *number)) {
-                    missing.push(format!("{call}: {number}"));
-                }
-            }
-        }
+        let calls = NUMBERS.into_iter();
+        let mut missing: Vec<String> = calls.flat_map(|call| self.gave.missing(call)).collect();
         let unmarked = MARKS.iter().filter(|mark| !self.marks.contains_key(*mark));
         missing.extend(unmarked.map(|mark| mark.to_string()));
         for (is_draft, count) in self.strangers().into_iter().enumerate() {
@@ -322,10 +317,8 @@ impl Ten {
 impl fmt::Display for Met {
     fn fmt(&self, out: &mut fmt::Formatter<'_>) -> fmt::Result {
         writeln!(out, "calls by number:")?;
-        for (call, _) in NUMBERS {
-            let own = self.numbers.iter().filter(|((name, _), _)| *name == call);
-            let counts: Vec<_> = own.map(|((_, n), count)| format!("{n}: {count}")).collect();
-            writeln!(out, "{call:>8}  {}", counts.join(", "))?;
+        for call in NUMBERS {
+            writeln!(out, "{}", self.gave.line(call))?;
         }
         writeln!(out, "among them:")?;
         for (mark, count) in &self.marks {

@@ -14,6 +14,7 @@ mod strangers;
 
 use std::fmt;
 
+use crate::hex::told;
 use crate::rng::Rng;
 use beside::{Alike, Beside};
 use strangers::Now;
@@ -196,7 +197,7 @@ impl Course<'_> {
     fn make_again(&mut self, rng: &mut Rng) -> Alike {
         let number = u64::from(rng.word());
         let image = images::of_number(number, rng);
-        self.beside.note(format!("an image of {}", hex(&image)));
+        self.beside.note(format!("an image of {}", told(&image)));
         let lent = rng.pick(&[self.beside.words.length(), WORDS, WORDS - 1]);
         self.beside.make(&image, lent).map(drop)
     }
@@ -224,7 +225,7 @@ impl fmt::Display for Difference {
     fn fmt(&self, out: &mut fmt::Formatter<'_>) -> fmt::Result {
         let (seed, number) = (self.seed, self.number);
         writeln!(out, "difference in draft {number} of seed {seed}")?;
-        writeln!(out, "image: {}", hex(&self.image))?;
+        writeln!(out, "image: {}", told(&self.image))?;
         writeln!(out, "calls:")?;
         for (at, call) in self.list.iter().enumerate() {
             writeln!(out, "{:5} {call}", at + 1)?;
@@ -236,13 +237,4 @@ impl fmt::Display for Difference {
             "the image is made again by: generate draft {seed} {number}"
         )
     }
-}
-
-/// Bytes to be read, where they are not too many.
-fn hex(bytes: &[u8]) -> String {
-    if bytes.len() > 2_000 {
-        return format!("{} bytes", bytes.len());
-    }
-    let digits: String = bytes.iter().map(|byte| format!("{byte:02x}")).collect();
-    format!("{} bytes, {digits}", bytes.len())
 }

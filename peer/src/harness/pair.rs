@@ -5,6 +5,7 @@ use std::fmt;
 use super::lent::Lent;
 use crate::answer::Answer;
 use crate::boundary::Boundary;
+use crate::hex::digits;
 
 /// The number of calls, function by function.
 #[derive(Clone, Copy, Debug, Default)]
@@ -206,9 +207,5 @@ fn answer(code: u64) -> String {
 }
 
 fn hex(bytes: &[u8]) -> String {
-    let mut text = format!("[{}] ", bytes.len());
-    for byte in bytes {
-        text.push_str(&format!("{byte:02x}"));
-    }
-    text
+    format!("[{}] {}", bytes.len(), digits(bytes))
 }

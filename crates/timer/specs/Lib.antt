@@ -1,0 +1,4 @@
+pub mod Registers
+pub mod Ticks
+pub mod Driving
+pub mod Cases
