@@ -200,7 +200,8 @@ def row_of_tasks(count, across, period):
 
 def diamond():
     """Two messages between neighbours along a row of 64 tasks, streams between two nodes and then buffers on one: 2^63 paths. Each of 32
-    chains goes to one more task, which only the last message of the first task leads to, so that a walk looks at all others before."""
+    chains goes to one more task, which only the last message of the first task leads to, so that a walk looks at all others before. The
+    two streams of neighbours have a queue each, since both wait from their sender's end on."""
     period = 16 * 66
     pairs = [(number, number + 1) for number in range(63) for _ in range(2)]
     frames = [dict(stream=number, link=first % 2, start=16 * first + 4 + 4 * (number % 2)) for number, (first, _) in enumerate(pairs[:64])]
@@ -209,7 +210,7 @@ def diamond():
         period,
         **two_nodes(period),
         **row_of_tasks(65, 33, period),
-        stream=[dict(sender=first, receiver=last) for first, last in pairs[:64]],
+        stream=[dict(sender=first, receiver=last, queue=number % 2) for number, (first, last) in enumerate(pairs[:64])],
         frame=frames,
         buffer=[dict(number=number, writer=first, reader=last) for number, (first, last) in enumerate(buffers)],
         chain=[dict(first=0, last=64)] * 32,
@@ -229,6 +230,23 @@ def long_chain():
         frame=[dict(stream=number, link=number % 2, start=16 * number + 4) for number in range(64)],
         buffer=[*buffers, dict(number=63, writer=0, reader=128)],
         chain=[dict(first=0, last=128)] * 32,
+    )
+
+
+def routes():
+    """64 streams of seven hops to and fro between two nodes, one after another, all in one queue: 448 frames, whose stays but the first of
+    each stream hang on the hop before. On each link they do not overlap, and few ticks lie between."""
+    slot, hops = 32, 7
+    cycle = 64 * slot
+    ends = [dict(task=2 * number + end, start=slot * number + 30 * end) for number in range(64) for end in (0, 1)]
+    frames = [dict(stream=number, hop=hop, link=hop % 2, start=slot * number + 2 + 4 * hop) for number in range(64) for hop in range(hops)]
+    return encoded(
+        cycle,
+        **two_nodes(cycle),
+        task=[task(cycle, vcpu=number % 2, cores=3) for number in range(128)],
+        piece=ends,
+        stream=[dict(sender=2 * number, receiver=2 * number + 1, hops=hops) for number in range(64)],
+        frame=frames,
     )
 
 
@@ -274,7 +292,7 @@ def at_once_falling():
 SIZED = [pieces, one_core, eight_cores]
 HARD = [many_jobs, windows, overlapping, empty, one_job, unit_jobs, last_window, long_buffers, one_buffer, one_number, refused_late]
 PAIRED = [even_ticks, odd_ticks, at_once_rising, at_once_falling]
-SHAPES = [*HARD, diamond, long_chain, *PAIRED, *SIZED]
+SHAPES = [*HARD, diamond, long_chain, routes, *PAIRED, *SIZED]
 
 
 NAMES = [make.__name__ for make in SHAPES]

@@ -1,7 +1,8 @@
 /*
  * reaperdecade.h - check tunnel plans, say the answer in words, build their
  * dispatch tables, step them; the tick timer that drives the steps; tell when
- * frames arrive; join two plans to one; edit their pieces in drafts.
+ * frames arrive; list the gates of links for switches; join two plans to one;
+ * edit their pieces in drafts.
  *
  * The functions of libreaperdecade.a, for C99 and later and for C++. Each of
  * them is proved to meet its contract: its result and every byte that it
@@ -313,6 +314,31 @@ uint32_t rd_timer_interrupt(const uint8_t *block, size_t block_len);
 uint64_t rd_arrivals(const uint8_t *image, size_t image_len, uint32_t frame, uint8_t *ticks, size_t ticks_len);
 
 /*
+ * The gate list of a link, as a switch with IEEE 802.1Qbv gates takes it: which
+ * queues are open from tick 0 of the cycle on. The check's questions again, then
+ * 25 (is there such a link?) and 42 (do the words suffice?).
+ *
+ * image      image_len bytes, which are only read.
+ * link       the row in the link table; not its lane.
+ * words      words_len bytes, of which words_len / 4 words count;
+ *            4 * RD_GATE_WORDS bytes suffice for any link of any plan.
+ *
+ * Gives 0 and writes m, how many gates there are, then for each an octet and an
+ * interval in ticks: 1 + 2 * m words. Later bytes are left as they were. Bit q of
+ * the octet (bit 0 lowest) is 1 exactly in the ticks in which the link's dispatch
+ * table shows the sending (kind 5) of a frame of a stream in queue q; all other
+ * bits are 0, and between frames the octet is 0. Intervals are at least 1 and sum
+ * to H, and neighbouring octets differ.
+ * Gives another answer and writes nothing where a question is answered no: the
+ * image's own answer where it is not accepted; 25 where there is no such link; 42
+ * where there are fewer words.
+ */
+uint64_t rd_gates(const uint8_t *image, size_t image_len, uint32_t link, uint8_t *words, size_t words_len);
+
+/* Words that suffice for any gate list: two gates for each of 512 frames, and one. */
+#define RD_GATE_WORDS 2051
+
+/*
  * Joins two plans to one, so that a machine can change between two modes without
  * changing its tables: the first plan whole, with what the second adds to it.
  * Asks the check's questions of the first, then of the second; then 35 (do H,
@@ -353,13 +379,13 @@ uint64_t rd_arrivals(const uint8_t *image, size_t image_len, uint32_t frame, uin
  * its own plan, and nothing else works.
  *
  * The worst pair of plans that we know takes 10 million instructions, three
- * checks among them. A call takes 48 kB of the stack.
+ * checks among them. A call takes 52 kB of the stack.
  */
 uint64_t rd_join(const uint8_t *first, size_t first_len, const uint8_t *second, size_t second_len, uint32_t shared, uint8_t *joined,
                  size_t joined_len, uint32_t *length);
 
 /* No image that passes question 1 is longer. */
-#define RD_IMAGE_BYTES 64860
+#define RD_IMAGE_BYTES 65116
 
 /*
  * Drafts. A draft is a row of words made from an image, in which pieces are

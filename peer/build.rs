@@ -8,7 +8,7 @@
 use std::path::Path;
 use std::process::Command;
 
-const FUNCTIONS: [&str; 21] = [
+const FUNCTIONS: [&str; 22] = [
     "rd_check",
     "rd_build",
     "rd_build_all",
@@ -16,6 +16,7 @@ const FUNCTIONS: [&str; 21] = [
     "rd_step",
     "rd_step_all",
     "rd_arrivals",
+    "rd_gates",
     "rd_draft_make",
     "rd_draft_add",
     "rd_draft_remove",

@@ -111,6 +111,7 @@ fn run(input: &[u8]) -> Result<(), Difference> {
     run.build(lent.part(), u32::from(run.choices.lane), room)?;
     run.build_all(lent.part(), room)?;
     run.arrivals(lent.part())?;
+    run.gates(lent.part(), room)?;
     if answer == 0 {
         run.accepted(lent.part())?;
     }
@@ -149,6 +150,14 @@ impl Run<'_> {
         let mut ticks = Lent::noise(room, &mut self.rng);
         self.pair
             .arrivals(image, u32::from(self.choices.lane), &mut ticks)?;
+        Ok(())
+    }
+
+    /// Asks for a link's gate list, the lane's number taken for its row, with so many bytes of noise.
+    fn gates(&mut self, image: &[u8], room: usize) -> Result<(), Difference> {
+        let mut words = Lent::noise(room, &mut self.rng);
+        self.pair
+            .gates(image, u32::from(self.choices.lane), &mut words)?;
         Ok(())
     }
 

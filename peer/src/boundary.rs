@@ -15,6 +15,7 @@ pub trait Boundary {
     fn step(&self, words: &[u8], state: &mut [u8]) -> u32;
     fn step_all(&self, words: &[u8], states: &mut [u8]) -> u32;
     fn arrivals(&self, image: &[u8], frame: u32, ticks: &mut [u8]) -> u64;
+    fn gates(&self, image: &[u8], link: u32, words: &mut [u8]) -> u64;
 
     /// All lanes' tables, one after another. Asks what the check asks,
     /// then 26 of all words together.
@@ -105,6 +106,13 @@ impl Boundary for Peer {
         let mut row = read_words(ticks);
         let answer = crate::arrivals(image, frame, &mut row);
         write_words(&row, ticks);
+        answer.code()
+    }
+
+    fn gates(&self, image: &[u8], link: u32, words: &mut [u8]) -> u64 {
+        let mut row = read_words(words);
+        let answer = crate::gates(image, link, &mut row);
+        write_words(&row, words);
         answer.code()
     }
 }

@@ -7,7 +7,8 @@ use crate::answer::Answer;
 use crate::charges::charges;
 use crate::image::{
     word_at, Buffer, Chain, Frame, Link, Piece, Plan, Stream, Trailer, Window, BUFFER, CHAIN, CORE,
-    FRAME, LINK, LONGEST, PIECE, ROW_BOUNDS, STREAM, TASK, TRAILER, VCPU, WIDTHS, WINDOW, WORD,
+    FRAME, LINK, LONGEST, PIECE, QUEUES, ROW_BOUNDS, STREAM, TASK, TRAILER, VCPU, WIDTHS, WINDOW,
+    WORD,
 };
 use crate::intervals::{lowest_clash, Interval};
 use crate::jobs::{Job, Jobs};
@@ -24,7 +25,9 @@ pub fn check(image: &[u8]) -> Answer {
 
 /// The plan of an image in which all these questions are answered yes.
 pub fn examine(image: &[u8]) -> Result<Plan, Answer> {
-    let (plan, charges) = examine_rows(image)?;
+    let plan = examine_values(image)?;
+    ask(40, STREAM, &plan.streams, |stream| stream[5] < QUEUES)?;
+    let charges = ask_on_cores(&plan)?;
     ask_windows_hold(&plan, &charges)?;
     let jobs = Jobs::of(&plan)?;
     ask_streams(&plan, &jobs)?;
@@ -33,19 +36,33 @@ pub fn examine(image: &[u8]) -> Result<Plan, Answer> {
     Ok(plan)
 }
 
-/// The plan of an image in which the questions up to 10 are answered yes, 32
-/// among them, and what each window is charged.
+/// The plan of an image in which the questions 1 to 10 are answered yes, 32
+/// among them, and what each window is charged. 40 is not asked: making a
+/// draft goes without it.
 pub fn examine_rows(image: &[u8]) -> Result<(Plan, Vec<u32>), Answer> {
+    let plan = examine_values(image)?;
+    let charges = ask_on_cores(&plan)?;
+    Ok((plan, charges))
+}
+
+/// The plan of an image in which the questions 1 to 5, 32 and 6 are answered
+/// yes.
+fn examine_values(image: &[u8]) -> Result<Plan, Answer> {
     ask_layout(image)?;
     let plan = Plan::decode(image);
     ask_references(&plan)?;
     ask_order(&plan)?;
     ask_ranges(&plan)?;
-    let charges = charges(&plan);
-    ask_windows(&plan, &charges)?;
-    ask_masks(&plan)?;
-    ask(10, PIECE, &plan.pieces, |piece| piece_in_job(&plan, piece))?;
-    Ok((plan, charges))
+    Ok(plan)
+}
+
+/// Questions 7 to 10; gives what each window is charged.
+fn ask_on_cores(plan: &Plan) -> Result<Vec<u32>, Answer> {
+    let charges = charges(plan);
+    ask_windows(plan, &charges)?;
+    ask_masks(plan)?;
+    ask(10, PIECE, &plan.pieces, |piece| piece_in_job(plan, piece))?;
+    Ok(charges)
 }
 
 fn wide(word: u32) -> u64 {
@@ -255,7 +272,7 @@ impl VcpuWindows {
     }
 }
 
-/// Questions 14 to 21.
+/// Questions 14 to 21, and 41.
 fn ask_streams(plan: &Plan, jobs: &Jobs) -> Result<(), Answer> {
     ask(14, STREAM, &plan.streams, |&[sender, receiver, ..]| {
         plan.period(sender) == plan.period(receiver)
@@ -271,7 +288,8 @@ fn ask_streams(plan: &Plan, jobs: &Jobs) -> Result<(), Answer> {
     ask(18, FRAME, &plan.frames, |frame| network.follows(frame))?;
     ask_apart(19, FRAME, &network.frames_on_links())?;
     network.ask_each_job(20, Network::is_in_order)?;
-    network.ask_each_job(21, Network::is_in_time)
+    network.ask_each_job(21, Network::is_in_time)?;
+    ask_apart(41, FRAME, &network.stays())
 }
 
 fn frame_in_job(plan: &Plan, &[stream, k, hop, link, start, ..]: &Frame) -> bool {
@@ -355,15 +373,49 @@ impl Network<'_> {
         end + wide(delay) + wide(self.plan.precision)
     }
 
-    /// Question 18 for one frame.
-    fn follows(&self, &[stream, k, hop, _, start, ..]: &Frame) -> bool {
-        if hop == 0 {
-            return true;
-        }
+    /// The frame row of the hop before a frame's, if there is one.
+    fn previous(&self, &[stream, k, hop, ..]: &Frame) -> Option<u32> {
         let hops = self.plan.streams[stream as usize][3];
         let place = k as usize * hops as usize + hop as usize;
-        let previous = self.routes.of_stream(stream)[place - 1];
-        self.arrival(previous) <= wide(start)
+        (hop > 0).then(|| self.routes.of_stream(stream)[place - 1])
+    }
+
+    /// Question 18 for one frame.
+    fn follows(&self, frame: &Frame) -> bool {
+        let previous = self.previous(frame);
+        previous.is_none_or(|previous| self.arrival(previous) <= wide(frame[4]))
+    }
+
+    /// The stay of each frame; its place is a queue of a link. By 18 and 20 it
+    /// begins no later than the frame.
+    fn stays(&self) -> Vec<Interval> {
+        let stay = |(row, frame): (u32, &Frame)| {
+            let &[stream, _, _, link, start, ..] = frame;
+            Interval {
+                place: link * QUEUES + self.plan.streams[stream as usize][5],
+                start: self.stays_from(frame),
+                end: start + self.plan.frame_ticks(stream, link),
+                row,
+            }
+        };
+        (0..).zip(&self.plan.frames).map(stay).collect()
+    }
+
+    /// The sender job's last end, or the previous hop's start plus the lowest
+    /// delay of the link that it went over, less P and never below 0.
+    fn stays_from(&self, frame: &Frame) -> u32 {
+        let &[stream, k, ..] = frame;
+        match self.previous(frame) {
+            None => {
+                let [sender, ..] = self.plan.streams[stream as usize];
+                self.jobs.of_task(sender)[k as usize].last_end
+            }
+            Some(previous) => {
+                let [_, _, _, _, start, ..] = self.plan.frames[previous as usize];
+                let [_, _, _, _, lowest, ..] = self.link_of(previous);
+                (start + lowest).saturating_sub(self.plan.precision)
+            }
+        }
     }
 
     fn frames_on_links(&self) -> Vec<Interval> {

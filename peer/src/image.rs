@@ -20,7 +20,7 @@ pub const TABLES: usize = 10;
 
 /// Words of a row, table by table. All sizes follow from these and from the
 /// highest row counts.
-pub const WIDTHS: [usize; TABLES] = [3, 1, 5, 3, 4, 5, 5, 5, 3, 3];
+pub const WIDTHS: [usize; TABLES] = [3, 1, 5, 3, 4, 5, 6, 5, 3, 3];
 /// The least and the highest row count, table by table.
 pub const ROW_BOUNDS: [(u32, u32); TABLES] = [
     (1, 32),
@@ -71,7 +71,7 @@ pub type Window = [u32; width(WINDOW)];
 pub type Piece = [u32; width(PIECE)];
 /// from node, to node, delay, rate, lowest delay
 pub type Link = [u32; width(LINK)];
-/// sender task, receiver task, latency E, hops, payload
+/// sender task, receiver task, latency E, hops, payload, queue
 pub type Stream = [u32; width(STREAM)];
 /// stream, job k, hop, link, start
 pub type Frame = [u32; width(FRAME)];
@@ -91,6 +91,9 @@ pub fn row_of<const N: usize, const W: usize>(words: [u32; N]) -> [u32; W] {
 pub fn rows_of<const N: usize, const W: usize>(rows: &[[u32; N]]) -> Vec<[u32; W]> {
     rows.iter().copied().map(row_of).collect()
 }
+
+/// The queues of a link.
+pub const QUEUES: u32 = 8;
 
 /// Bytes of a frame besides its payload: header, check, preamble and gap of
 /// tagged Ethernet.

@@ -5,7 +5,7 @@ use std::collections::BTreeMap;
 /// Ticks `start` to `end` (not included) that a row takes at a place.
 ///
 /// Places and ticks are below 2^20, and an interval is not empty: both hold
-/// for all that questions 8, 12, 19 and 24 compare, by the questions before.
+/// for all that questions 8, 12, 19, 24 and 41 compare, by the questions before.
 #[derive(Clone, Copy, Debug)]
 pub struct Interval {
     pub place: u32,

@@ -28,6 +28,13 @@ extern "C" {
         ticks: *mut u8,
         ticks_len: usize,
     ) -> u64;
+    fn rd_gates(
+        image: *const u8,
+        image_len: usize,
+        link: u32,
+        words: *mut u8,
+        words_len: usize,
+    ) -> u64;
     fn rd_draft_make(image: *const u8, image_len: usize, words: *mut u32, n: usize) -> u32;
     fn rd_draft_add(
         words: *mut u32,
@@ -97,6 +104,11 @@ impl Boundary for Library {
     fn arrivals(&self, image: &[u8], frame: u32, ticks: &mut [u8]) -> u64 {
         let (at, length) = (ticks.as_mut_ptr(), ticks.len());
         unsafe { rd_arrivals(image.as_ptr(), image.len(), frame, at, length) }
+    }
+
+    fn gates(&self, image: &[u8], link: u32, words: &mut [u8]) -> u64 {
+        let (at, length) = (words.as_mut_ptr(), words.len());
+        unsafe { rd_gates(image.as_ptr(), image.len(), link, at, length) }
     }
 }
 

@@ -36,8 +36,14 @@ enum No {
 
 /// All questions, in the order of their list.
 pub fn check(image: &[u8]) -> Answer {
+    ask(image, QUESTIONS)
+}
+
+/// Some questions, in this order. Those that they rely on must be answered yes,
+/// or be asked before.
+pub fn ask(image: &[u8], questions: &[u32]) -> Answer {
     let asked = Image { bytes: image };
-    for &number in QUESTIONS {
+    for &number in questions {
         match asked.question(number) {
             None => {}
             Some(No::Plain) => return Answer::plain(number),
@@ -81,6 +87,28 @@ pub fn arrivals(image: &[u8], frame: u32, ticks: &mut [u32]) -> Answer {
         return Answer::plain(26);
     }
     [ticks[0], ticks[1]] = arrivals_unasked(image, frame);
+    Answer::ACCEPTED
+}
+
+/// The check, then 25 of the link that is named, then 42, then its gate list.
+pub fn gates(image: &[u8], link: u32, words: &mut [u32]) -> Answer {
+    let answer = check(image);
+    if !answer.is_accepted() {
+        return answer;
+    }
+    let plan = Image { bytes: image };
+    if Number::from(link) >= plan.rows(LINK) {
+        return Answer::plain(25);
+    }
+    let list = plan.gates(Number::from(link));
+    if words.len() < 1 + 2 * list.len() {
+        return Answer::plain(42);
+    }
+    words[0] = list.len() as u32;
+    for (index, (octet, interval)) in list.iter().enumerate() {
+        words[1 + 2 * index] = *octet as u32;
+        words[2 + 2 * index] = *interval as u32;
+    }
     Answer::ACCEPTED
 }
 
@@ -254,6 +282,9 @@ impl Image<'_> {
     fn payload(&self, stream: Number) -> Number {
         self.cell(STREAM, stream, 4)
     }
+    fn queue(&self, stream: Number) -> Number {
+        self.cell(STREAM, stream, 5)
+    }
     fn frame_stream(&self, frame: Number) -> Number {
         self.cell(FRAME, frame, 0)
     }
@@ -407,6 +438,8 @@ impl Image<'_> {
                 .find_map(|(table, start)| {
                     self.each(table, |row| row == 0 || self.rises(table, start, row))
                 }),
+            40 => self.each(STREAM, |stream| (0..=7).contains(&self.queue(stream))),
+            41 => self.no_pair(FRAME, |low, high| self.stays_clash(low, high)),
             _ => unreachable!("question {number} is listed and never asked"),
         }
     }
@@ -633,6 +666,35 @@ impl Image<'_> {
         })
     }
 
+    /// Where a frame's stay on its link begins.
+    fn stay_start(&self, frame: Number) -> Number {
+        let (stream, job) = (self.frame_stream(frame), self.frame_job(frame));
+        let hop = self.frame_hop(frame);
+        if hop == 0 {
+            return self.last_end(self.sender(stream), job);
+        }
+        let previous = self.frame_of(stream, job, hop - 1);
+        let lowest = self.lowest_delay(self.frame_link(previous));
+        let from = self.frame_start(previous) + lowest - self.precision();
+        if from < 0 {
+            0
+        } else {
+            from
+        }
+    }
+
+    fn stays_clash(&self, low: Number, high: Number) -> bool {
+        let queue = |frame: Number| self.queue(self.frame_stream(frame));
+        self.frame_link(low) == self.frame_link(high)
+            && queue(low) == queue(high)
+            && overlap(
+                self.stay_start(low),
+                self.frame_end(low),
+                self.stay_start(high),
+                self.frame_end(high),
+            )
+    }
+
     fn sides_match(&self, buffer: Number) -> bool {
         let (writer, reader) = (self.writer(buffer), self.reader(buffer));
         self.period(writer) == self.period(reader)
@@ -767,6 +829,34 @@ impl Image<'_> {
     }
 }
 
+/// The gates, tick by tick.
+impl Image<'_> {
+    fn gates(&self, link: Number) -> Vec<(Number, Number)> {
+        let mut list: Vec<(Number, Number)> = Vec::new();
+        for tick in 0..self.cycle() {
+            let octet = self.octet(link, tick);
+            match list.pop() {
+                Some((before, interval)) if before == octet => list.push((octet, interval + 1)),
+                other => {
+                    list.extend(other);
+                    list.push((octet, 1));
+                }
+            }
+        }
+        list
+    }
+
+    /// Bit q is 1 if the link's lane shows a frame of a stream of queue q.
+    fn octet(&self, link: Number, tick: Number) -> Number {
+        let (kind, frame) = self.shown(self.rows(CORE) + link, tick);
+        if kind != 5 {
+            return 0;
+        }
+        let queue = self.queue(self.frame_stream(frame));
+        (0..queue).fold(1, |bit, _| 2 * bit)
+    }
+}
+
 /// Steps one lane, word by word.
 pub fn step(words: &[u32], state: &mut State) -> u32 {
     let refusal = refused(words, state);
@@ -898,6 +988,15 @@ impl Boundary for Naive {
         let answer = arrivals(image, frame, &mut row);
         for (index, word) in row.iter().enumerate() {
             set_word(ticks, index, *word);
+        }
+        answer.code()
+    }
+
+    fn gates(&self, image: &[u8], link: u32, words: &mut [u8]) -> u64 {
+        let mut row: Vec<u32> = (0..words.len() / 4).map(|i| word(words, i)).collect();
+        let answer = gates(image, link, &mut row);
+        for (index, word) in row.iter().enumerate() {
+            set_word(words, index, *word);
         }
         answer.code()
     }

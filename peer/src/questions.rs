@@ -1,11 +1,11 @@
 //! The questions that are asked of an image, by number. All that goes through
 //! them takes them from here.
 
-/// In the order in which they are asked. 25 to 28 are none of them: these are
-/// asked of lanes, lent words and states.
+/// In the order in which they are asked. 25 to 28 and 42 are none of them:
+/// these are asked of lanes, lent words and states.
 pub const QUESTIONS: &[u32] = &[
-    1, 2, 3, 4, 5, 32, 6, 7, 8, 9, 10, 11, 12, 13, 14, 15, 16, 17, 18, 19, 20, 21, 22, 23, 24, 29,
-    30, 31,
+    1, 2, 3, 4, 5, 32, 6, 40, 7, 8, 9, 10, 11, 12, 13, 14, 15, 16, 17, 18, 19, 20, 21, 41, 22, 23,
+    24, 29, 30, 31,
 ];
 
 /// Whether a number is that of a question which is asked before another one.

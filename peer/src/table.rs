@@ -13,7 +13,7 @@ const VCPU_SWITCH: u32 = 1;
 const SPARE: u32 = 2;
 const TASK_SWITCH: u32 = 3;
 const WORK: u32 = 4;
-const SENDING: u32 = 5;
+pub const SENDING: u32 = 5;
 
 /// Writes a lane's table (H, n, entries) from the first word on, or gives
 /// the first question answered no and changes no word.
@@ -114,7 +114,7 @@ fn core_entries(plan: &Plan, charges: &[u32], core: u32) -> Vec<Entry> {
     lane.entries
 }
 
-fn link_entries(plan: &Plan, link: u32) -> Vec<Entry> {
+pub fn link_entries(plan: &Plan, link: u32) -> Vec<Entry> {
     let mut lane = Lane::new();
     for (start, end, frame) in link_frames(plan, link) {
         lane.show(start, IDLE, 0);

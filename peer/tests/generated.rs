@@ -1,8 +1,8 @@
 //! The generator's plans are accepted, and its shapes are what they say.
 
 use peer::generate::{
-    accepted, bare, busy_core, cut_window, diamond, full, kept_core, large, longest_lane, medium,
-    most_entries, rich, shared_buffer, small, tiny, unit_periods,
+    accepted, bare, busy_core, busy_links, cut_window, diamond, full, kept_core, large,
+    longest_lane, medium, most_entries, rich, shared_buffer, small, tiny, unit_periods,
 };
 use peer::image::{row_of, Chain, Frame, Piece, Window, LONGEST, ROW_BOUNDS};
 use peer::{check, report, Answer, Plan, Rng};
@@ -31,6 +31,7 @@ fn every_shape_is_accepted() {
     all_accepted(500, rich);
     all_accepted(100, large);
     all_accepted(10, busy_core);
+    all_accepted(2_000, busy_links);
     all_accepted(100, diamond);
     all_accepted(10, most_entries);
     all_accepted(10, longest_lane);
@@ -267,6 +268,82 @@ fn delays_are_many() {
     all_met(accepted, 100, &features);
     all_met(rich, 100, &features);
     all_met(tiny, 100, &features);
+}
+
+/// Queue by queue, where frames stay: each frame's link, queue, and from when to
+/// when, not cut at 0.
+fn stays(plan: &Plan) -> Vec<[i64; 4]> {
+    let stay = |frame: &Frame| {
+        let &[stream, k, hop, link, start, ..] = frame;
+        let [sender, _, _, _, _, queue, ..] = plan.streams[stream as usize];
+        let from = if hop == 0 {
+            let of_job = |piece: &&Piece| piece[..2] == [sender, k];
+            let pieces = plan.pieces.iter().filter(of_job);
+            let ends = pieces.map(|piece| i64::from(piece[2] + piece[3]));
+            ends.max().expect("the job has a piece")
+        } else {
+            let mut frames = plan.frames.iter();
+            let before = frames.find(|frame| frame[..3] == [stream, k, hop - 1]);
+            let &[_, _, _, link, start, ..] = before.expect("the hop has a frame");
+            i64::from(start + plan.links[link as usize][4]) - i64::from(plan.precision)
+        };
+        let end = i64::from(start + plan.frame_ticks(stream, link));
+        [i64::from(link), i64::from(queue), from, end]
+    };
+    plan.frames.iter().map(stay).collect()
+}
+
+/// Whether it holds for the stays of some two frames.
+fn any_stays(plan: &Plan, hold: fn(&[i64; 4], &[i64; 4]) -> bool) -> bool {
+    let stays = stays(plan);
+    let mut ones = stays.iter();
+    ones.any(|one| stays.iter().any(|other| one != other && hold(one, other)))
+}
+
+/// Queues of links that frames stay in, alone or beside others.
+#[test]
+fn queues_are_many() {
+    let features: [(&str, Feature); 8] = [
+        ("a queue but the first", |plan| {
+            plan.streams.iter().any(|stream| stream[5] > 0)
+        }),
+        ("the last queue", |plan| {
+            plan.streams.iter().any(|stream| stream[5] == 7)
+        }),
+        ("stays that overlap in two queues of a link", |plan| {
+            any_stays(plan, |a, b| {
+                a[0] == b[0] && a[1] != b[1] && a[2] < b[3] && b[2] < a[3]
+            })
+        }),
+        ("stays that overlap in one queue of two links", |plan| {
+            any_stays(plan, |a, b| {
+                a[0] != b[0] && a[1] == b[1] && a[2] < b[3] && b[2] < a[3]
+            })
+        }),
+        ("stays in one queue, one after the other", |plan| {
+            any_stays(plan, |a, b| a[..2] == b[..2] && a[3] < b[2])
+        }),
+        ("stays in one queue that touch", |plan| {
+            any_stays(plan, |a, b| a[..2] == b[..2] && a[3] == b[2])
+        }),
+        ("frames of one queue that touch", |plan| {
+            let queue = |frame: &Frame| plan.streams[frame[0] as usize][5];
+            let place = |frame: &Frame| (frame[3], queue(frame));
+            plan.frames.iter().any(|frame| {
+                let end = frame[4] + ticks(plan, frame);
+                let mut others = plan.frames.iter();
+                others.any(|other| other[4] == end && place(other) == place(frame))
+            })
+        }),
+        ("a stay that is cut at 0", |plan| {
+            stays(plan).iter().any(|stay| stay[2] < 0)
+        }),
+    ];
+    all_met(busy_links, 100, &features);
+    all_met(tiny, 20, &features);
+    all_met(rich, 5, &features);
+    let short: Feature = |plan| plan.cycle <= 60;
+    all_met(busy_links, 2_000, &[("at most 60 ticks", short)]);
 }
 
 /// Whether it holds for the lowest and the highest delay of some frame's link.

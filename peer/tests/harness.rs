@@ -21,6 +21,7 @@ const SMALL: Settings = Settings {
 fn the_naive_twin_agrees() {
     let summary = run(&SMALL, &Peer, &Naive).unwrap_or_else(|difference| panic!("{difference}"));
     println!("{summary:?}");
+    println!("{}", summary.gates);
     assert!(summary.calls.total() > 20_000);
 }
 
@@ -175,6 +176,10 @@ impl Boundary for Faulty {
             _ => {}
         }
         answer
+    }
+
+    fn gates(&self, image: &[u8], link: u32, words: &mut [u8]) -> u64 {
+        Peer.gates(image, link, words)
     }
 
     fn start(&self, cycle: u64, first: u32, state: &mut [u8]) -> u32 {

@@ -4,7 +4,7 @@
 mod cases;
 
 use cases::{case_a, case_b};
-use peer::image::{row_of, rows_of, Stream};
+use peer::image::{row_of, rows_of};
 use peer::joins::{ask, Joins, Standin, Work};
 use peer::{check, join, tables, Answer, Plan};
 
@@ -346,12 +346,17 @@ fn refused_inputs() {
     }
 }
 
-/// Case B with its receiver later, so many equal streams, and frames of them.
+/// Case B with its receiver later, so many equal streams, and frames of them:
+/// those from 6 on over one link, others over a second one.
 fn b_with(streams: usize, frames: &[[u32; 2]]) -> Plan {
     with(case_b(), |plan| {
         plan.pieces[1][2] = 14;
-        plan.streams = vec![[0, 1, 0, 1, 46] as Stream; streams];
-        let frame = |&[stream, start]: &[u32; 2]| row_of([stream, 0, 0, 0, start]);
+        plan.streams = vec![row_of([0, 1, 0, 1, 46]); streams];
+        plan.links.push(plan.links[0]);
+        let frame = |&[stream, start]: &[u32; 2]| {
+            let link = u32::from(start > 6);
+            row_of([stream, 0, 0, link, start])
+        };
         plan.frames = frames.iter().map(frame).collect();
     })
 }

@@ -232,7 +232,7 @@ fn asked_after_5_and_before_6() {
     expect(&plan, 32, 5, 1);
     plan.pieces.swap(0, 1);
     expect(&plan, 6, 1, 0);
-    assert_eq!(QUESTIONS[3..7], [4, 5, 32, 6]);
+    assert_eq!(QUESTIONS[3..9], [4, 5, 32, 6, 40, 7]);
     assert!(asked_before(5, 32) && asked_before(32, 6) && asked_before(32, 31));
     assert!(!asked_before(6, 32) && !asked_before(32, 32) && !asked_before(0, 32));
 }
@@ -579,20 +579,43 @@ fn intervals(plan: &Plan, question: u32) -> Vec<[u32; 3]> {
             };
             plan.pieces.iter().map(piece).collect()
         }
-        _ => {
+        19 => {
             let frame = |&[stream, _, _, link, start, ..]: &Frame| {
                 [link, start, start + plan.frame_ticks(stream, link)]
             };
             plan.frames.iter().map(frame).collect()
         }
+        _ => {
+            let stay = |frame: &Frame| {
+                let &[stream, _, _, link, start, ..] = frame;
+                let queue = 8 * link + plan.streams[stream as usize][5];
+                let end = start + plan.frame_ticks(stream, link);
+                [queue, stays_from(plan, frame), end]
+            };
+            plan.frames.iter().map(stay).collect()
+        }
     }
+}
+
+/// Where a frame's stay begins.
+fn stays_from(plan: &Plan, &[stream, k, hop, ..]: &Frame) -> u32 {
+    if hop == 0 {
+        let job = [plan.streams[stream as usize][0], k];
+        let pieces = plan.pieces.iter().filter(|piece| piece[..2] == job);
+        let ends = pieces.map(|piece| piece[2] + piece[3]);
+        return ends.max().expect("13 is answered yes");
+    }
+    let mut frames = plan.frames.iter();
+    let previous = frames.find(|frame| frame[..3] == [stream, k, hop - 1]);
+    let &[_, _, _, link, start, ..] = previous.expect("16 is answered yes");
+    (start + plan.links[link as usize][4]).saturating_sub(plan.precision)
 }
 
 /// Checks of overlap may use neighbours: those of one place, and not those of
 /// the table.
 #[test]
 fn neighbours_of_one_place_suffice() {
-    let mut wrong = BTreeMap::from([(8, 0), (12, 0), (19, 0)]);
+    let mut wrong = BTreeMap::from([(8, 0), (12, 0), (19, 0), (41, 0)]);
     for case in 0..12_000 {
         let image = mutant(&mut Rng::for_case(36, case));
         let right = check(&image);

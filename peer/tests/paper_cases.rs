@@ -5,8 +5,8 @@ mod cases;
 use cases::{case_a, case_b, case_chain, case_chain_deadline, case_deadline, two_hops, two_rows};
 use peer::boundary::{Boundary, Peer};
 use peer::image::{
-    point_back, row_of, rows_of, set_word, width, word_at, Trailer, LINK, LONGEST, TABLES, TRAILER,
-    WORD,
+    point_back, row_of, rows_of, set_word, width, word_at, Trailer, LINK, LONGEST, STREAM, TABLES,
+    TRAILER, WORD,
 };
 use peer::naive::Naive;
 use peer::{
@@ -402,23 +402,24 @@ fn each_hop_has_its_own_rate() {
 /// written down here and in no other test.
 #[test]
 fn sizes_are_the_papers() {
-    assert_eq!((TRAILER, LONGEST), (92, 64_860));
+    assert_eq!((TRAILER, LONGEST), (92, 65_116));
     let image = case_a().encode();
     assert_eq!(image.len(), 156);
     assert_eq!(image[152..], [64, 0, 0, 0]);
 }
 
-/// An image of case B with link rows of three words, or of four.
+/// An image of case B with link rows of three words, or of four, or with stream
+/// rows of five.
 #[test]
-fn old_link_rows_are_refused() {
-    for words in [3, 4] {
+fn old_rows_are_refused() {
+    for (old, words) in [(LINK, 3), (LINK, 4), (STREAM, 5)] {
         let mut image = case_b().encode();
-        let (begin, rows) = Trailer::read(&image).tables[LINK as usize - 1];
+        let (begin, rows) = Trailer::read(&image).tables[old as usize - 1];
         assert_eq!(rows, 1);
-        let gone = (width(LINK) - words) * WORD;
+        let gone = (width(old) - words) * WORD;
         let end = begin as usize + words * WORD;
         image.drain(end..end + gone);
-        for table in LINK as usize..TABLES {
+        for table in old as usize..TABLES {
             let at = image.len() - TRAILER + WORD * (2 + 2 * table);
             let offset = word_at(&image, at) - gone as u32;
             set_word(&mut image, at, offset);

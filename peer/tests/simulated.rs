@@ -26,7 +26,12 @@ fn accepted_plans_keep_every_claim() {
     for (fact, name) in FACTS {
         let (at_end, all) = (summary.at_end.of(fact), summary.tally.of(fact));
         println!("{at_end:9} {all:11}  {name}");
-        assert!(at_end >= 100, "{name}: {at_end}");
+        let least = if fact == Fact::StayBeforeCycle {
+            40
+        } else {
+            100
+        };
+        assert!(at_end >= least, "{name}: {at_end}");
     }
     let answered = summary.at_end.of(Fact::GaveZero) + summary.at_end.of(Fact::GaveEnd);
     assert_eq!(answered, summary.calls);
@@ -102,6 +107,10 @@ impl Boundary for Faulty {
             _ => {}
         }
         answer
+    }
+
+    fn gates(&self, image: &[u8], link: u32, words: &mut [u8]) -> u64 {
+        Peer.gates(image, link, words)
     }
 
     fn start(&self, cycle: u64, first: u32, state: &mut [u8]) -> u32 {
@@ -334,8 +343,15 @@ fn each_claim_fails_alone() {
             &[Claim::Crossed, Claim::Arrived],
         ),
         (|plan| plan.links[0][4] = 1, &[]),
-        (|plan| plan.streams[0][4] += 1, &[Claim::Arrived]),
-        (|plan| plan.links[0][3] -= 1, &[Claim::Arrived]),
+        // A frame that is never sent whole stays in its queue.
+        (
+            |plan| plan.streams[0][4] += 1,
+            &[Claim::Arrived, Claim::Queue],
+        ),
+        (
+            |plan| plan.links[0][3] -= 1,
+            &[Claim::Arrived, Claim::Queue],
+        ),
         (|plan| plan.links[0][3] += 1, &[]),
         (|plan| plan.links[0][3] *= 2, &[Claim::Crossed]),
         (|plan| plan.streams[0][2] -= 1, &[Claim::Latency]),

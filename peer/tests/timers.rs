@@ -232,6 +232,10 @@ impl Boundary for Steps {
     fn arrivals(&self, image: &[u8], frame: u32, ticks: &mut [u8]) -> u64 {
         Peer.arrivals(image, frame, ticks)
     }
+
+    fn gates(&self, image: &[u8], link: u32, words: &mut [u8]) -> u64 {
+        Peer.gates(image, link, words)
+    }
 }
 
 /// Steps as they should be, but for a record that is put back.

@@ -2,16 +2,18 @@
 import subprocess
 from dataclasses import dataclass
 
+from .lanes import Entry
 from .lateness import late
 from .limits import KEYS
 from .ordering import fall
 from .questions import QUESTIONS, RANGES, phrase
+from .queues import crowded, frame_met
 from .schema import BY_KIND, kind_of
 from .troubles import trouble
 
 ORDER = 32  # the question of the rows' order
-VALUES = 6  # the question of the values' ranges
 LIMITS = (21, 31)  # the questions of a stream's and a chain's limit
+STAYS = 41  # the question of the stays in queues
 
 
 @dataclass(frozen=True)
@@ -40,10 +42,32 @@ def parse(text):
 
 def ask(program, image):
     """What the checker at this path answers to an image."""
+    return _asked(program, image, lambda lines: parse(lines[0]))
+
+
+def ask_lanes(program, image):
+    """What the checker answers, and what it prints of an accepted plan's lanes: their entries, lane by lane."""
+    return _asked(program, image, lambda lines: (parse(lines[0]), lanes_in(lines[2:])))
+
+
+def lanes_in(lines):
+    """The entries of lanes from lines of lane, first tick, kind and row, lanes rising."""
+    lanes = []
+    for lane, *entry in (map(int, line.split()) for line in lines):
+        if lane == len(lanes):
+            lanes.append([])
+        elif lane != len(lanes) - 1:
+            raise ValueError(f"lane {lane} after {len(lanes)} lanes")
+        lanes[lane].append(Entry(*entry))
+    return lanes
+
+
+def _asked(program, image, read):
+    """What is read from the lines that the checker prints."""
     try:
         ran = subprocess.run([program], input=image, capture_output=True, check=True)
-        return parse(ran.stdout.decode().splitlines()[0])
-    except (OSError, subprocess.CalledProcessError, ValueError, IndexError) as error:
+        return read(ran.stdout.decode().splitlines())
+    except (OSError, subprocess.CalledProcessError, ValueError, IndexError, TypeError) as error:
         raise trouble(program, f"gives no answer: {error}") from None
 
 
@@ -66,13 +90,18 @@ def fall_of(plan, answer):
 
 
 def reason(plan, answer):
-    """For question 6 the ranges of the row's values, for 21 and 31 the ticks it takes and its limit, for 32 the words that decide and where
-    the row belongs; nothing for other answers."""
-    if answer.number == VALUES and answer.kind in RANGES:
-        return f"In a {answer.kind}: {RANGES[answer.kind]}."
+    """For questions 6 and 40 the ranges of the row's values, for 21 and 31 the ticks it takes and its limit, for 32 the words that decide and
+    where the row belongs, for 41 the two stays; nothing for other answers."""
+    ranges = RANGES.get(answer.number, {})
+    if answer.kind in ranges:
+        return f"In a {answer.kind}: {ranges[answer.kind]}."
     if answer.number in LIMITS and answer.kind in KEYS and plan.row(answer.kind, answer.row):
         return late(plan, answer.kind, answer.row)
-    return _out_of_order(plan, answer)
+    return crowded(plan, answer.row) if _of_stays(plan, answer) else _out_of_order(plan, answer)
+
+
+def _of_stays(plan, answer):
+    return answer.number == STAYS and answer.kind == "frame" and plan.row("frame", answer.row) is not None
 
 
 def _out_of_order(plan, answer):
@@ -102,6 +131,12 @@ def row_title(plan, answer):
 def lines_of(plan, answer):
     """The lines of text that the row which an answer names comes from."""
     return plan.lines(answer.kind, answer.row) if answer.kind else []
+
+
+def lines_met(plan, answer):
+    """The lines of the frame that a frame which question 41 names meets in its queue."""
+    other = frame_met(plan, answer.row) if _of_stays(plan, answer) else None
+    return [] if other is None else plan.lines("frame", other)
 
 
 def line_before(plan, answer):

@@ -2,22 +2,26 @@
 import argparse
 import os
 import sys
+from contextlib import redirect_stdout
 from pathlib import Path
 
 from .aligned import aligned
-from .answers import ORDER, ask, explained, line_before, lines_of, parse, question, reason
+from .answers import ORDER, ask, ask_lanes, explained, line_before, lines_met, lines_of, parse, question, reason
 from .columns import word
 from .comparing import compare, report
 from .files import is_text, load, plan_in, read_bytes, write_whole
+from .gates import gate_lanes, gate_words
 from .image import encode
 from .joinable import join, join_text
 from .joins import GROWING
 from .lateness import assumed
 from .listing import listing
-from .loads import hinders, loads
+from .loads import hides, hinders, loads, without_queues
 from .ordering import in_order
 from .pairs import PlanFile
 from .picture.drawing import View, near, picture
+from .taprio import command as taprio_command
+from .taprio import devices
 from .troubles import BadValue, Trouble, meant, trouble
 from .writing import write_text
 
@@ -56,6 +60,12 @@ def parser():
     _asks_checker(command, default=CHECKER)
     command = _command(commands, "check", run_check, "ask the checker, and print its answer in words")
     command.add_argument("plan", help="image or text")
+    _takes_order(command)
+    _asks_checker(command, default=CHECKER)
+    command = _command(commands, "gates", run_gates, "print the gate lists of a plan's links, or the commands that set them")
+    command.add_argument("plan", help="image or text")
+    command.add_argument("link", nargs="?", help="only this link, by name or row")
+    command.add_argument("--taprio", metavar="DEV", help="print commands of tc for this device, or these, joined by commas; {link} stands for a link's row")
     _takes_order(command)
     _asks_checker(command, default=CHECKER)
     command = _command(commands, "join", run_join, "join a second plan to a first, and ask the checker about both and about the result")
@@ -136,6 +146,11 @@ def run_loads(options):
     data, plan = image_and_plan(options, options.plan)
     answer = ask(options.plancheck, data)
     tell(plan, answer)
+    if plan and hides(answer):
+        tell_row(plan, answer)
+        answer = ask(options.plancheck, encode(without_queues(plan)))
+        if hinders(answer):
+            tell(plan, answer, "With every stream in queue 0: ")
     if plan and not hinders(answer):
         print(f"\n{loads(plan)}", end="")
         return 0
@@ -155,9 +170,61 @@ def run_check(options):
     return 0 if accepted else 1
 
 
+def run_gates(options):
+    """Prints gate lists made from what the checker prints of an accepted plan's links. Commands are printed alone, so that they can be run."""
+    data, plan = image_and_plan(options, options.plan)
+    answer, lanes = ask_lanes(options.plancheck, data)
+    with redirect_stdout(sys.stdout if options.taprio is None else sys.stderr):
+        accepted = told(plan, answer)
+        if not (plan and accepted):
+            print("No gate lists: the plan has to be accepted.")
+            return 1
+    file = PlanFile(options.plan, plan)
+    file.refuse_raw("take")
+    links, lists = chosen_links(options, plan), blamed_on(options.plancheck, gate_lanes, plan, lanes)
+    (tell_gates if options.taprio is None else tell_commands)(options, file, links, lists)
+    return 0
+
+
+def chosen_links(options, plan):
+    """The rows of all links, or of the one that is asked for."""
+    rows = range(len(plan.rows["link"]))
+    if options.link is None:
+        return rows
+    link = blamed_on(options.plan, plan.names.number, "link", options.link)
+    if link not in rows:
+        raise trouble(options.plan, f"there is no link {link}; it has {len(rows)}")
+    return [link]
+
+
+def blamed_on(file, read, *values):
+    """What is read from values; a bad one is a trouble with a file."""
+    try:
+        return read(*values)
+    except BadValue as bad:
+        raise trouble(file, str(bad)) from None
+
+
+def tell_gates(options, file, links, lists):
+    print(f"\ncycle {file.plan.cycle}; gate lists: {len(links)}")
+    for link in links:
+        print(f"\n{gate_words(file, link, lists[link])}")
+
+
+def tell_commands(options, file, links, lists):
+    named = blamed_on(options.plan, devices, file.plan, links, options.taprio)
+    for link, device in zip(links, named):
+        for line in taprio_command(file, link, device, lists[link]):
+            print(line)
+
+
 def check(options, data, plan, whose=""):
     """Whether the checker accepts an image; tells its answer, and the row of a refused plan."""
-    answer = ask(options.plancheck, data)
+    return told(plan, ask(options.plancheck, data), whose)
+
+
+def told(plan, answer, whose=""):
+    """Whether an answer accepts a plan; tells it, and the row of a refused plan."""
     tell(plan, answer, whose)
     if plan and not answer.accepted:
         tell_row(plan, answer)
@@ -225,6 +292,8 @@ def tell_row(plan, answer):
         print(why)
     for place in lines_of(plan, answer):
         print(f"{place}: this row")
+    for place in lines_met(plan, answer):
+        print(f"{place}: the row it meets")
     if before:
         print(f"{before}: it belongs before this row")
     if answer.number == ORDER:

@@ -6,15 +6,14 @@ from .joins import AGREEING, joined
 from .pairs import differing, other_rows, other_settings, told
 from .questions import phrase
 from .schema import TABLES
-from .troubles import Place, Trouble, trouble
+from .troubles import Place, Trouble
 from .writing import write_text
 
 
 def join(first, second, shared):
     """The join of two modes, or a Trouble that tells what keeps them apart."""
     for mode in (first, second):
-        if mode.plan.raw:
-            raise trouble(mode.file, "has raw lines, so its rows need not be those of its image; join the image")
+        mode.refuse_raw("join")
     refuse_for(35, first, second, list(disagreements(first, second)))
     refuse_for(36, first, second, unshared(first, second, shared))
     found = joined(first.plan, second.plan, shared)

@@ -1,11 +1,11 @@
-"""What the lanes of cores show in an accepted plan: each lane's entries, as its dispatch table has them, and what an entry is about."""
+"""What lanes show in an accepted plan: entries, as dispatch tables have them; those of each core's lane, and what such an entry is about."""
 from bisect import bisect_left
 from collections import defaultdict
 from typing import NamedTuple
 
 from .meaning import Meaning
 
-IDLE, VCPU_SWITCH, WINDOW, TASK_SWITCH, WORK = range(5)
+IDLE, VCPU_SWITCH, WINDOW, TASK_SWITCH, WORK, SENDING = range(6)
 
 
 class Entry(NamedTuple):

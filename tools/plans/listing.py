@@ -1,4 +1,4 @@
-"""Listings: every table by name with what follows from the rows, then jobs, messages, holds and chains. Windows,
+"""Listings: every table by name with what follows from the rows, then jobs, messages, stays, holds and chains. Windows,
 pieces and frames are listed in the order of question 32, whatever order they have in the plan.
 
 A '!' stands behind what cannot be so in an accepted plan; the checker has the last word.
@@ -17,7 +17,7 @@ def listing(plan):
     counts = ", ".join(f"{len(plan.rows[table.kind])} {table.kind}" for table in TABLES)
     parts = [f"cycle {plan.cycle}, precision {plan.precision}; rows: {counts}"]
     parts += [table_part(plan, meaning, table) for table in TABLES if plan.rows[table.kind]]
-    for describe in (jobs, messages, holds, chains):
+    for describe in (jobs, messages, stays, holds, chains):
         title, header, lines = describe(plan, meaning)
         if lines:
             parts.append(part(title, header, lines))
@@ -183,6 +183,19 @@ def _end_line(plan, role, job, ready):
     if job is None or not job.pieces:
         return [f"{role} has no piece", "", "", "", "-", ""]
     return [f"{role} {plan.name('task', job.task)}", shown(ready), job.first, job.last, slack(job.first, ready), ""]
+
+
+def stays(plan, meaning):
+    """Each queue's stays by begin: the ticks it was free before, and those in which the frame waits for its start."""
+    header = ["link", "queue", "frame", "stream", "job", "hop", "stay", "free before", "waits"]
+    lines, ends = [], {}
+    for stay in meaning.stays():
+        row, queue = plan.rows["frame"][stay.frame], (stay.link, stay.queue)
+        names = [plan.name("link", stay.link), stay.queue, plan.name("frame", stay.frame), plan.name("stream", row.stream)]
+        lines.append([*names, row.job, row.hop, span(stay.begin, stay.end), slack(stay.begin, ends.get(queue, 0)), stay.waits])
+        ends[queue] = max(ends.get(queue, 0), stay.end)
+    begin = "the sender's end, then the start of the hop before + lowest delay - P"
+    return f"stays in queues (from {begin}, to the frame's end)", header, lines
 
 
 def holds(plan, meaning):

@@ -9,8 +9,10 @@ from dataclasses import dataclass
 
 from .listing import flagged, part
 from .meaning import Meaning
+from .model import Plan
 
 ASKED = {*range(1, 11), 32}  # the questions asked when a draft is made
+QUEUES = 40  # the check asks this one among them, a draft does not
 BAR_MARKS = 40
 
 
@@ -45,6 +47,17 @@ class Run:
 def hinders(answer):
     """Whether an answer says no to a question that is asked when a draft is made."""
     return answer.number in ASKED
+
+
+def hides(answer):
+    """Whether an answer leaves open what is asked when a draft is made."""
+    return answer.number == QUEUES
+
+
+def without_queues(plan):
+    """The plan with every stream in queue 0: what the check then answers is hidden by no queue."""
+    streams = [stream._replace(queue=0) for stream in plan.rows["stream"]]
+    return Plan(plan.settings, {**plan.rows, "stream": streams}, plan.names.given, plan.places, plan.raw)
 
 
 def loads(plan):

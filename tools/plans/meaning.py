@@ -1,4 +1,4 @@
-"""What rows mean: jobs, charges, frame lengths and arrivals, messages and holds, by the plan paper's words.
+"""What rows mean: jobs, charges, frame lengths, arrivals and stays, messages and holds, by the plan paper's words.
 
 Any readable plan can be asked, also one that breaks questions: what a missing row would tell is None, and jobs without
 a piece have no first start and last end.
@@ -74,6 +74,34 @@ class Hold:
     end: int
     written: int
     read: int
+
+
+@dataclass(frozen=True)
+class Stay:
+    """The ticks in which a frame may be in a queue of its link: it waits until its start, is sent until its end. Since when hangs on the
+    sender's job (hop 0) or on the frame of the hop before; None where that is not there."""
+
+    frame: int
+    link: int
+    queue: int
+    since: int
+    start: int
+    end: int
+    before: int
+
+    @property
+    def begin(self):
+        """Where the stay begins: never later than the frame, which an accepted plan's does anyway."""
+        return self.start if self.since is None else min(self.since, self.start)
+
+    @property
+    def waits(self):
+        return self.start - self.begin
+
+    def clash(self, other):
+        """From which tick to which two frames are in one queue of a link, or None."""
+        first, end = max(self.begin, other.begin), min(self.end, other.end)
+        return (first, end) if (self.link, self.queue) == (other.link, other.queue) and first < end else None
 
 
 class Meaning:
@@ -152,6 +180,34 @@ class Meaning:
         """From when on every clock sees a frame arrived: P after its latest arrival."""
         arrival = self.arrival(frame)
         return (arrival.latest if arrival else self.frame_end(frame)) + self.plan.precision
+
+    def stay(self, frame):
+        """A frame's stay in the queue of its stream; None where stream or link is none."""
+        row = self.plan.rows["frame"][frame]
+        stream, link = self.plan.row("stream", row.stream), self.plan.row("link", row.link)
+        if not stream or not link:
+            return None
+        before = self.hop_before(frame)
+        return Stay(frame, row.link, stream.queue, self._since(stream, row, before), row.start, self.frame_end(frame), before)
+
+    def hop_before(self, frame):
+        """The frame of the hop before, of the same message, or None."""
+        rows = self.plan.rows["frame"]
+        hop, message = rows[frame].hop, self.frames[rows[frame].stream, rows[frame].job]
+        return next((other for other in message if rows[other].hop == hop - 1), None)
+
+    def _since(self, stream, row, before):
+        """The sender job's last end for hop 0; else P before the earliest tick at which the hop before can begin to arrive, never below 0."""
+        if row.hop == 0:
+            sender = self.job(stream.sender, row.job)
+            return sender and sender.last
+        link = None if before is None else self.plan.row("link", self.plan.rows["frame"][before].link)
+        return max(self.plan.rows["frame"][before].start + link.lowest - self.plan.precision, 0) if link else None
+
+    def stays(self):
+        """All stays, by link, queue and begin."""
+        found = filter(None, map(self.stay, range(len(self.plan.rows["frame"]))))
+        return sorted(found, key=lambda stay: (stay.link, stay.queue, stay.begin, stay.frame))
 
     def job_count(self, task):
         """H/T, rounded down; 0 for a task that is not there."""

@@ -5,7 +5,7 @@ from dataclasses import dataclass
 from .model import Plan
 from .ordering import order_key
 from .schema import BY_KIND, SETTINGS
-from .troubles import Place
+from .troubles import Place, trouble
 
 MANY = 12  # lines; of more the last are only counted
 
@@ -19,6 +19,11 @@ class PlanFile:
 
     def rows(self, kind):
         return self.plan.rows[kind]
+
+    def refuse_raw(self, verb):
+        """Raises where the text breaks its image on purpose; the image itself can be taken."""
+        if self.plan.raw:
+            raise trouble(self.file, f"has raw lines, so its rows need not be those of its image; {verb} the image")
 
     def place(self, kind, row):
         """Where the row got its words last, or the file."""

@@ -8,6 +8,7 @@ QUESTIONS = {
     5: "does each row number in the row name an existing row?",
     32: "do windows, pieces and frames rise by start, equal starts by their words from the first on?",
     6: "are the row's values in range?",
+    40: "is the stream's queue at most 7?",
     7: "is the window longer than its VCPU switch (v, or 0 where the VCPU keeps its core), and does it end by H?",
     8: "do windows on one core never overlap?",
     9: "does the task's mask allow its VCPU's core?",
@@ -23,6 +24,7 @@ QUESTIONS = {
     19: "do frames on one link never overlap?",
     20: "does hop 0 start after the sender's last end, and the receiver after the last hop's end + delay + P?",
     21: "is receiver's last end less sender's first start, plus P, at most E?",
+    41: "do stays of frames in one queue of a link never overlap?",
     22: "have writer and reader equal periods and one node?",
     23: "does each reader job start no sooner than the writer job ends?",
     24: "do holds of one buffer never overlap between rows?",
@@ -31,13 +33,18 @@ QUESTIONS = {
     31: "is each job's last end of the last task less first start of the first, plus P, at most the limit?",
 }
 
-# What question 6 asks of a row's values, by the keys of texts; kinds that it passes over are not here.
+# What questions 6 and 40 ask of a row's values, by the keys of texts; kinds that one passes over are not here.
 RANGES = {
-    "core": "node at most 15, d and v at most 1,000",
-    "task": "period at least 1 and dividing the cycle, budget at least 1 and at most deadline, deadline at most period",
-    "link": "from and to at most 15 and different, delay at most 1,000,000, rate 1 to 10,000, lowest at most delay",
-    "stream": "sender and receiver different, latency at most 1,000,000, hops 1 to 8, payload 46 to 1,500",
-    "buffer": "number at most 63, writer and reader different",
+    6: {
+        "core": "node at most 15, d and v at most 1,000",
+        "task": "period at least 1 and dividing the cycle, budget at least 1 and at most deadline, deadline at most period",
+        "link": "from and to at most 15 and different, delay at most 1,000,000, rate 1 to 10,000, lowest at most delay",
+        "stream": "sender and receiver different, latency at most 1,000,000, hops 1 to 8, payload 46 to 1,500",
+        "buffer": "number at most 63, writer and reader different",
+    },
+    40: {
+        "stream": "queue at most 7",
+    },
 }
 
 # What each number of an answer says, from 0 on: the checker's own phrases (crates/texts/specs/Wording.antt; test_questions.py compares).

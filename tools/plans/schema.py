@@ -36,7 +36,10 @@ TABLES = (
     Table(
         "link", 0, 64, Number("from", "from_node"), Number("to", "to_node"), Number("delay"), Number("rate"), Number("lowest", default="0"),
     ),
-    Table("stream", 0, 64, RowOf("sender", "task"), RowOf("receiver", "task"), Number("latency"), Number("hops"), Number("payload")),
+    Table(
+        "stream", 0, 64, RowOf("sender", "task"), RowOf("receiver", "task"), Number("latency"), Number("hops"), Number("payload"),
+        Number("queue", default="0"),
+    ),
     Table("frame", 0, 512, RowOf("stream"), Number("job"), Number("hop"), RowOf("link"), Number("at", "start")),
     Table("buffer", 0, 64, Number("number"), RowOf("writer", "task"), RowOf("reader", "task")),
     Table("chain", 0, 32, RowOf("first", "task"), RowOf("last", "task"), Number("limit")),

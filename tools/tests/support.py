@@ -138,6 +138,12 @@ class InFolder(unittest.TestCase):
         """A checker that always prints this line."""
         return self.recording(line, "/dev/null")
 
+    def printing(self, lines):
+        """A checker that always prints what a file has."""
+        path = self.put("checker", f"#!/bin/sh\ncat > /dev/null\ncat '{lines}'\n")
+        os.chmod(path, 0o755)
+        return path
+
     def recording(self, line, asked):
         """A checker that always prints this line and keeps what it was asked in a file."""
         path = self.put("checker", f"#!/bin/sh\ncat > '{asked}'\necho {line}\n")

@@ -67,7 +67,7 @@ class Commands(InFolder):
         self.assertIn("none.image: cannot be read", ran.stderr)
 
     def test_broken_layouts_are_told(self):
-        older = ("q03-old-links", 3), ("q03-links-without-lowest", 3)
+        older = ("q03-old-links", 3), ("q03-links-without-lowest", 3), ("q03-streams-without-queue", 3)
         for name, number in (("q01-empty", 1), ("q02-last-word", 2), ("q02-nine-tables", 2), ("q03-gap", 3), *older):
             ran = run("text", EXAMPLES / f"{name}.image")
             self.assertEqual((ran.returncode, ran.stdout), (1, ""))
@@ -103,6 +103,27 @@ class Commands(InFolder):
         self.assertEqual(asked, "No to question 6: are the row's values in range?")
         self.assertTrue(ranges.startswith("In a link: ") and ranges.endswith("lowest at most delay."), ranges)
         self.assertEqual([line.rsplit("/", 1)[-1] for line in lines], ["fibre.txt:27: this row", "q06-lowest-above-delay.txt:6: this row"])
+
+    def test_check_of_queues_out_of_range(self):
+        ran = run("check", EXAMPLES / "q40-queue.txt", "--plancheck", self.program("40 7 2"))
+        first, asked, ranges, *lines = ran.stdout.splitlines()
+        self.assertEqual(first, "refused (40 7 2) at stream labels: the queue is out of range")
+        self.assertEqual(asked, "No to question 40: is the stream's queue at most 7?")
+        self.assertEqual(ranges, "In a stream: queue at most 7.")
+        self.assertEqual([line.rsplit("/", 1)[-1] for line in lines], ["queues.txt:55: this row", "q40-queue.txt:6: this row"])
+
+    def test_check_of_stays_tells_both_frames(self):
+        ran = run("check", EXAMPLES / "q41-stay.txt", "--plancheck", self.program("41 8 7"))
+        first, asked, *told = ran.stdout.splitlines()
+        self.assertEqual(first, "refused (41 8 7) at frame7: two frames stay in one queue of a link at once")
+        self.assertTrue(asked.startswith("No to question 41: "), asked)
+        self.assertEqual((ran.returncode, [line.rsplit("/", 1)[-1] for line in told]), (1, [
+            "frame7 and frame4 are both in queue 1 of down from 11 to 12.",
+            "frame7 (labels job 0 hop 1) stays 11..24: from 14 (start of frame6) + 1 (lowest delay) - 4 (P).",
+            "frame4 (picture job 0 hop 1) stays 0..12: from 3 (start of frame1) + 1 (lowest delay) - 4 (P).",
+            "queues.txt:64: this row",
+            "queues.txt:61: the row it meets",
+        ]))
 
     def test_check_of_an_accepted_plan_tells_what_a_0_stands_for(self):
         for name, lines in (
@@ -177,7 +198,7 @@ class Commands(InFolder):
 
     def test_loads_of_plans_refused_by_later_questions(self):
         """A draft can be made from them."""
-        for number in (*range(11, 25), *range(29, 32)):
+        for number in (*range(11, 25), *range(29, 32), 41):
             for path in EXAMPLES.glob(f"q{number}-*.txt"):
                 ran = self.loads(path.name)
                 self.assertEqual(ran.returncode, 0, path.name)
@@ -192,6 +213,26 @@ class Commands(InFolder):
                 self.assertIn(f"No to question {number}: ", ran.stdout)
                 self.assertTrue(ran.stdout.endswith("No loads: they need yes to questions 1 to 10 and 32, as a draft does.\n"))
                 self.assertNotIn("cores (", ran.stdout)
+
+    def loads_behind_40(self, line):
+        """The loads of a plan that 40 refuses, and that would get this line with every stream in queue 0."""
+        image = EXAMPLES / "q40-queue.image"
+        checker = self.put("checker", f"#!/bin/sh\nif cmp -s - '{image}'; then echo 40 7 2; else echo {line}; fi\n")
+        checker.chmod(0o755)
+        return run("loads", EXAMPLES / "q40-queue.txt", "--plancheck", checker)
+
+    def test_loads_behind_40_ask_what_a_draft_asks(self):
+        """40 is asked before 7 to 10, but not when a draft is made."""
+        for line in ("0 0 0", "41 8 4", "13 3 0"):
+            ran = self.loads_behind_40(line)
+            self.assertEqual(ran.returncode, 0)
+            self.assertIn("No to question 40: ", ran.stdout)
+            self.assertIn("\ncores (", ran.stdout)
+            self.assertNotIn("in queue 0", ran.stdout)
+        ran = self.loads_behind_40("10 5 3")
+        self.assertEqual(ran.returncode, 1)
+        self.assertIn("With every stream in queue 0: refused (10 5 3) at piece3: ", ran.stdout)
+        self.assertNotIn("cores (", ran.stdout)
 
     def test_no_loads_tell_the_row_and_its_line(self):
         ran = self.loads("q10-after-due-tick.txt")

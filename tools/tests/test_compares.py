@@ -346,6 +346,11 @@ class Words(unittest.TestCase):
     def told(self, first, second):
         return list(report(compared(first, second)))
 
+    def test_queues_are_free_to_differ(self):
+        told = self.told(THREE + LINKED, THREE + LINKED.replace(" payload=46", " payload=46 queue=3"))
+        self.assertIn("Free to differ: 1 stream gone, 1 stream added", told)
+        self.assertIn("No VCPU notices: in 40 ticks none shows anything else.", told)
+
     def test_one_differs_and_others_do_not_notice(self):
         self.assertEqual(self.told(THREE, edited(("2..6", "3..7")) + LINKED), [
             "VCPU 0 (radio) has other tasks or pieces: 1 piece gone, 1 piece added",

@@ -146,9 +146,18 @@ class Rows(unittest.TestCase):
         later = {kind: [row._replace(start=row.start + 4) for row in case_b.rows[kind]] for kind in ("piece", "frame")}
         plan = joined(Plan(case_b.settings, {**case_b.rows, **later}), case_b, 0).plan
         self.assertEqual(rows_of(plan, "piece"), [(2, 0, 2, 4), (0, 0, 6, 4), (3, 0, 10, 4), (1, 0, 14, 4)])
-        self.assertEqual(rows_of(plan, "stream"), [(0, 1, 13, 1, 46), (2, 3, 13, 1, 46)])
+        self.assertEqual(rows_of(plan, "stream"), [(0, 1, 13, 1, 46, 0), (2, 3, 13, 1, 46, 0)])
         self.assertEqual(rows_of(plan, "frame"), [(1, 0, 0, 0, 6), (0, 0, 0, 0, 10)])
-        self.assertEqual(len(encode(plan)), 392)
+        self.assertEqual(len(encode(plan)), 400)
+
+    def test_queues_are_taken_over(self):
+        """A stream that differs by its queue alone is another one, and its frame, which then differs by its stream, another frame."""
+        case_b, other = example("case-b"), example("case-b")
+        other.rows["stream"] = [row._replace(queue=5) for row in other.rows["stream"]]
+        plan = joined(case_b, other, 2).plan
+        self.assertEqual([stream.queue for stream in plan.rows["stream"]], [0, 5])
+        self.assertEqual([frame.stream for frame in plan.rows["frame"]], [0, 1])
+        self.assertEqual(rows_of(joined(other, other, 2).plan, "stream"), [(0, 1, 13, 1, 46, 5)])
 
     def test_rows_are_compared_with_their_new_numbers(self):
         """The piece of their task 1 is one of task 2 then, so it is not that of our task 1, though its words were the same."""

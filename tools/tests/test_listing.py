@@ -75,19 +75,33 @@ class Listings(unittest.TestCase):
         self.assertIn("labels 0 latency 22 of 20 -2 !".split(), words("q21-default-latency"))
 
     def test_streams_tell_what_a_latency_of_0_stands_for(self):
-        self.assertIn("0 labels scan sort 0 1 46 19 (default: sort's deadline)".split(), words("default-latency"))
-        self.assertIn("0 labels scan sort 20 1 46 20".split(), words("period-latency"))
+        self.assertIn("0 labels scan sort 0 1 46 0 19 (default: sort's deadline)".split(), words("default-latency"))
+        self.assertIn("0 labels scan sort 20 1 46 0 20".split(), words("period-latency"))
 
     def test_a_latency_of_0_without_a_receiver(self):
         plan = load(EXAMPLES / "default-latency.txt")
         plan.rows["stream"] = [plan.rows["stream"][0]._replace(receiver=7)]
         lines = [line.split() for line in listing(plan).splitlines()]
-        self.assertIn("0 labels scan 7 0 1 46 no task 7 !".split(), lines)
+        self.assertIn("0 labels scan 7 0 1 46 0 no task 7 !".split(), lines)
         self.assertIn("labels 0 latency - of - -".split(), lines)
 
     def test_slack_below_zero_is_flagged(self):
         self.assertIn(["labels", "0", "receiver", "sort", "10", "9", "13", "-1", "!"], words("case-b-early"))
         self.assertIn(["labels", "0", "latency", "13", "of", "12", "-1", "!"], words("case-b-late"))
+
+    def test_streams_have_a_queue(self):
+        lines = words("queues")
+        self.assertIn("0 alarm beep stop 25 2 46 7 25".split(), lines)
+        self.assertIn("2 labels mark print 25 2 46 1 25".split(), lines)
+        self.assertIn("0 labels scan sort 13 1 46 0 13".split(), words("case-b"))
+
+    def test_stays(self):
+        lines = words("queues")
+        self.assertIn("up 1 frame2 speed 0 0 5..7 0 0".split(), lines)
+        self.assertIn("down 7 frame3 alarm 0 1 0..10 0 8".split(), lines)
+        self.assertIn("down 1 frame7 labels 0 1 12..24 0 10".split(), lines)
+        self.assertIn("down 1 frame7 labels 0 1 11..24 -1 ! 11".split(), words("q41-stay"))
+        self.assertIn("up 1 frame2 speed 0 0 4..7 -1 ! 1".split(), words("q41-first-hop"))
 
     def test_holds(self):
         self.assertIn(["0", "0", "totals", "0", "count", "report", "12..22", "0", "1"], words("shared-buffer"))

@@ -241,6 +241,104 @@ class Arrivals(unittest.TestCase):
         self.assertEqual([(round(first), round(last)) for first, last in spans], [(2, 9), (9, 14), (14, 27), (27, 38), (38, 47)])
 
 
+def stays(elements):
+    """The parts of stays by title, the legend's apart: (look, left, right, top, bottom) of what waits and of what is sent."""
+    rects = [element for element in elements if element.tag == SVG + "rect" and len(element) and " in queue " in element[0].text]
+    found = {}
+    for rect in rects:
+        found.setdefault(rect[0].text, []).append((rect.get("class"), *edges(rect)))
+    return found
+
+
+def queue_lanes(elements):
+    return [edges(element) for element in elements if element.get("class") == "lane queue"]
+
+
+class Queues(unittest.TestCase):
+    def drawn_stays(self, name, **more):
+        plan, answer = example(name)
+        return stays(drawn(plan, answer, **more))
+
+    def test_each_link_has_its_queues_under_it(self):
+        """Queues 1 and 7 of up and of down, queue 1 of side, none of back; each under its own link and above the next."""
+        elements = drawn(*example("queues"))
+        labels = [text for text in texts(elements) if text.startswith("queue ")]
+        self.assertEqual(labels, ["queue 1", "queue 7", "queue 1", "queue 7", "queue 1"])
+        links = [edges(element) for element in elements if element.get("class") == "lane"][4:]
+        under = [sum(top >= link[3] for link in links) - 1 for _, _, top, _ in queue_lanes(elements)]
+        self.assertEqual(under, [0, 0, 1, 1, 2])
+        self.assertAlmostEqual(queue_lanes(elements)[0][2] - links[0][3], 2)
+
+    def test_waiting_and_sending(self):
+        """The cycle of 40 ticks is 900 pixels wide; what is sent has its sender's colour, as on the link."""
+        elements = drawn(*example("queues"))
+        left = min(float(element.get("x")) for element in elements if element.get("class") == "lane")
+        found = stays(elements)
+        (wait, first, start, *_), (sent, again, end, *_) = found["frame7 in queue 1 of down: labels job 0 hop 1, 12..24, waits 10"]
+        self.assertEqual((wait, sent), ("wait", "p t2"))
+        for x, tick in ((first, 12), (start, 22), (again, 22), (end, 24)):
+            self.assertAlmostEqual((x - left) / 22.5, tick, delta=0.02)
+        ((look, *_),) = found["frame2 in queue 1 of up: speed job 0 hop 0, 5..7, waits 0"]
+        self.assertEqual(look, "p t3")
+        self.assertEqual(len(found), 8)
+
+    def test_stays_lie_in_lanes_of_queues(self):
+        for plan in (example("queues")[0], example("mode-both")[0], decode(generated("full"))):
+            elements = drawn(plan)
+            lanes, found = queue_lanes(elements), stays(elements)
+            self.assertGreater(len(found), 5)
+            for title, parts in found.items():
+                for _, left, right, top, bottom in parts:
+                    self.assertTrue(any(first < top < bottom < last for _, _, first, last in lanes), title)
+
+    def test_stays_that_overlap_hide_each_other_nowhere(self):
+        found = [part for parts in self.drawn_stays("q41-one-queue").values() for part in parts]
+        for number, (_, left, right, top, bottom) in enumerate(found):
+            for _, other_left, other_right, other_top, other_bottom in found[:number]:
+                apart = right <= other_left + 0.1 or other_right <= left + 0.1 or bottom <= other_top or other_bottom <= top
+                self.assertTrue(apart)
+
+    def test_a_refused_stay_is_marked(self):
+        plan, answer = example("q41-stay")
+        found = marked(drawn(plan, answer))
+        self.assertEqual([title.split(":")[0] for title in found], ["frame7 in queue 1 of down", "frame7 in queue 1 of down", "frame7"])
+        self.assertEqual(near(plan, answer, 2), (9, 26))
+
+    def test_other_answers_mark_no_stay(self):
+        self.assertFalse(any(" in queue " in title for title in marked(drawn(*example("q18-hop-too-soon")))))
+
+    def test_a_refused_queue_marks_its_streams_frames(self):
+        found = marked(drawn(*example("q40-queue")))
+        self.assertEqual([title.split(":")[0] for title in found if title.startswith("frame")], ["frame6", "frame7"])
+        self.assertIn("queue 8", texts(drawn(*example("q40-queue"))))
+
+    def test_queues_go_with_their_link(self):
+        labels = texts(drawn(load(EXAMPLES / "queues.txt"), view=View(lanes=["side"])))
+        self.assertEqual([label for label in labels if label.startswith("queue ")], ["queue 1"])
+
+    def test_only_stays_in_view(self):
+        for view, shown in (
+            (View(24, 40), []),
+            (View(17, 40), ["frame7 in queue 1 of down"]),
+            (View(0, 1), ["frame4 in queue 1 of down", "frame3 in queue 7 of down"]),
+        ):
+            elements = drawn(load(EXAMPLES / "queues.txt"), view=view)
+            self.assertEqual([title.split(":")[0] for title in stays(elements)], shown)
+            self.assertEqual(len(queue_lanes(elements)), len(shown))
+
+    def test_frames_that_start_too_soon_are_drawn_without_a_wait(self):
+        (((look, *_),),) = self.drawn_stays("q20-sent-too-soon").values()
+        self.assertEqual(look, "p t0")
+
+    def test_legend(self):
+        self.assertIn("a frame that waits in its queue", texts(drawn(*example("case-b"))))
+        self.assertNotIn("a frame that waits in its queue", texts(drawn(*example("case-a"))))
+
+    def test_the_two_frames_are_told_in_the_title(self):
+        title = " ".join(texts(drawn(*example("q41-stay"))))
+        self.assertIn("frame7 and frame4 are both in queue 1 of down from 11 to 12.", title)
+
+
 class Marks(unittest.TestCase):
     def expect(self, name, *beginnings):
         plan, answer = example(name)

@@ -25,16 +25,20 @@ class Questions(unittest.TestCase):
         self.assertEqual(list(listed_in_readme()), list(QUESTIONS))
 
     def test_each_has_an_example_of_its_name(self):
-        named = {int(NAMED.match(path.name)[1]) for path in EXAMPLES.glob("q*.txt")}
+        named = {int(NAMED.match(path.name)[1]) for path in EXAMPLES.glob("q[0-9]*.txt")}
         self.assertEqual(named, set(QUESTIONS))
 
     def test_ranges_name_each_value_of_a_row(self):
-        for kind, words in RANGES.items():
+        for kind in RANGES[6]:
+            words = " ".join(ranges.get(kind, "") for ranges in RANGES.values())
             values = {column.key for column in BY_KIND[kind].columns if not column.names_rows_of}
             self.assertLessEqual(values, set(re.findall(r"\w+", words)), kind)
 
+    def test_ranges_are_told_of_questions(self):
+        self.assertLessEqual(set(RANGES), set(QUESTIONS))
+
     def test_examples_are_refused_by_the_question_of_their_name(self):
-        for path in EXAMPLES.glob("q*.lines"):
+        for path in EXAMPLES.glob("q[0-9]*.lines"):
             self.assertEqual(parse(path.read_text().splitlines()[0]).number, int(NAMED.match(path.name)[1]), path.name)
 
 

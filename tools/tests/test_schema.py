@@ -13,7 +13,7 @@ class PapersSizes(unittest.TestCase):
         """Words of a row, least and highest number of rows, table by table."""
         expected = [
             ("core", 3, 1, 32), ("vcpu", 1, 0, 64), ("task", 5, 0, 256), ("window", 3, 0, 1024), ("piece", 4, 0, 2048),
-            ("link", 5, 0, 64), ("stream", 5, 0, 64), ("frame", 5, 0, 512), ("buffer", 3, 0, 64), ("chain", 3, 0, 32),
+            ("link", 5, 0, 64), ("stream", 6, 0, 64), ("frame", 5, 0, 512), ("buffer", 3, 0, 64), ("chain", 3, 0, 32),
         ]
         self.assertEqual([(table.kind, table.row_words, table.least, table.most) for table in TABLES], expected)
 
@@ -23,7 +23,7 @@ class PapersSizes(unittest.TestCase):
         self.assertEqual(starts, {"window": 1, "piece": 2, "frame": 4})
 
     def test_trailer_and_longest_image(self):
-        self.assertEqual((TRAILER_BYTES, LONGEST), (92, 64860))
+        self.assertEqual((TRAILER_BYTES, LONGEST), (92, 65116))
 
     def test_the_header_has_the_longest_image(self):
         self.assertIn(f"\n#define RD_IMAGE_BYTES {LONGEST}\n", (ROOT / "include/reaperdecade.h").read_text())
@@ -44,6 +44,10 @@ class Rows(unittest.TestCase):
     def test_defaults(self):
         self.assertEqual(SETTINGS.row(cycle=10)[:2], (10, 0))
         self.assertEqual(BY_KIND["link"].row(delay=3).lowest, 0)
+        self.assertEqual(BY_KIND["stream"].row(payload=46).queue, 0)
+
+    def test_the_queue_is_a_streams_last_word(self):
+        self.assertEqual(BY_KIND["stream"].row(sender=1, receiver=2, latency=3, hops=4, payload=5, queue=6), (1, 2, 3, 4, 5, 6))
 
     def test_unknown_words(self):
         self.assertRaises((ValueError, TypeError), BY_KIND["link"].row, rat=352)

@@ -1,5 +1,5 @@
-// The cases of paper 01 ("Cases"), run: each changes words of case A or of case B and prints the answer of a check; then the step
-// cases. What is printed is compared with the paper's lines in the file stdout.
+// The cases of paper 01 ("Cases"), run: each changes words of case A or of case B, which has a queue too (paper 02, request 13), and prints the answer of
+// a check; then the step cases. What is printed is compared with the paper's lines, and the queue's, in the file stdout.
 ghost use Prim.Native.Nat.{_<_};
 use libc::STDOUT_FILENO;
 use plan::LaneState;
@@ -48,7 +48,7 @@ const CASE_A: [u32; 39] = [
 ];
 
 // Case B, as words.
-const CASE_B: [u32; 70] = [
+const CASE_B: [u32; 71] = [
     0,
     1,
     2,
@@ -95,6 +95,7 @@ const CASE_B: [u32; 70] = [
     0,
     0,
     0,
+    0,
     6,
     20,
     1,
@@ -112,13 +113,13 @@ const CASE_B: [u32; 70] = [
     1,
     148,
     1,
-    168,
+    172,
     1,
-    188,
+    192,
     0,
-    188,
+    192,
     0,
-    188,
+    192,
 ];
 
 // Changes to A, a row of four each: a word's place and its new value, twice; place 99 changes nothing. In the paper's order.
@@ -186,7 +187,7 @@ const A_CHANGES: [u32; 60] = [
 ];
 
 // Changes to B.
-const B_CHANGES: [u32; 12] = [
+const B_CHANGES: [u32; 16] = [
     99,
     0,
     99,
@@ -199,6 +200,10 @@ const B_CHANGES: [u32; 12] = [
     9,
     99,
     0, // receiver's piece 9 to 13: 20 7 0
+    42,
+    8,
+    99,
+    0, // queue 8: 40 7 0
 ];
 
 // The table of case A's lane 0.
@@ -264,7 +269,7 @@ fn change_a(image: &mut [u8], k: usize)
 
 // Writes case B with its k-th change.
 fn change_b(image: &mut [u8], k: usize)
-    requires { ⌜ k < 3 ⌝ }
+    requires { ⌜ k < 4 ⌝ }
 {
     let at = 4 * k;
     let place = B_CHANGES[at];
@@ -272,7 +277,7 @@ fn change_b(image: &mut [u8], k: usize)
     let second = B_CHANGES[at + 2];
     let other = B_CHANGES[at + 3];
     let mut i: usize = 0;
-    while i < 70 {
+    while i < 71 {
         put(
             image,
             i,
@@ -291,9 +296,9 @@ fn run_a(k: usize)
 }
 
 fn run_b(k: usize)
-    requires { ⌜ k < 3 ⌝ }
+    requires { ⌜ k < 4 ⌝ }
 {
-    let mut image = [0u8; 280];
+    let mut image = [0u8; 284];
     change_b(&mut image, k);
     print_answer(&image);
 }
@@ -328,7 +333,7 @@ fn main() {
     let empty = [0u8; 1];
     print_answer(&empty[..0]);
     let mut b: usize = 0;
-    while b < 3 {
+    while b < 4 {
         run_b(b);
         b += 1;
     }

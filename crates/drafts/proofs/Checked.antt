@@ -1,8 +1,8 @@
--- Making and the check: `MakeAsks` (specs/Claim.antt).
+-- Making and the check: `MakeAsks` and `MakePasses40` (specs/Claim.antt).
 use Prim.Native.Nat.{ℕ}
 use mathlib.Core.Path.{_≡_, refl, sym, ap, _∙_}
 use mathlib.Core.Logic.{_≢_, _⊎_, inl, inr}
-use mathlib.Core.Bool.{Bool, true, false, cond}
+use mathlib.Core.Bool.{Bool, true, false, true≢false, cond}
 use mathlib.Core.List.{List, _∷_, _++_, [], append-assoc}
 use native.Mathlib.Decide.{ℕ-discrete}
 use lib.ListN.{length, take, drop, take-append-drop}
@@ -11,15 +11,16 @@ use Rattle.plan.specs.declared.Answer.{Answer}
 use Rattle.plan.specs.declared.Found.{Found}
 use Rattle.plan.specs.declared.Found.the-variants.{At, Nothing}
 use Rattle.plan.specs.declared.Table.{Table}
+use Rattle.plan.specs.declared.Table.the-variants.{Streams}
 use Rattle.plan.specs.Image.{tables}
 use Rattle.plan.specs.Search.{firstNo}
-use Rattle.plan.specs.Questions.{Question, whole, each, eachTable, names, inOrder, inRange, imageQuestions, rowQuestions, pieceQuestions, streamQuestions, bufferQuestions, chainQuestions, planQuestions, questions, answerTo, answerOf}
+use Rattle.plan.specs.Questions.{Question, whole, each, eachTable, names, inOrder, inRange, queueFits, imageQuestions, rowQuestions, queueQuestions, pieceQuestions, streamQuestions, bufferQuestions, chainQuestions, planQuestions, questions, answerTo, answerOf}
 use Rattle.plan.proofs.Answers.{named, no-row, a-row}
 use Rattle.plan.proofs.Asking.{Real, then-asked, stopped-first}
-use Rattle.plan.proofs.Numbers.{real-image, real-rows}
+use Rattle.plan.proofs.Numbers.{real-image, real-rows, real-queues}
 use Rattle.drafts.specs.Drafts.{draftWords}
 use Rattle.drafts.specs.Edits.{numberOf, makeNumber}
-use Rattle.drafts.specs.Claim.{isEarly, MakeAsks}
+use Rattle.drafts.specs.Claim.{isEarly, MakeAsks, MakePasses40}
 use Rattle.drafts.proofs.Asking.{asked-none, asked-yes, asked-no}
 use Rattle.drafts.proofs.Making.{real-append, real-four}
 
@@ -45,14 +46,62 @@ answer-numbered b (q ∷ qs) g = go (firstNo (q .many) (q .ok)) refl (answer-num
     go Nothing e h = rw (no-row q qs e) h
     go (At r) e h = inr (rw (a-row q qs r e) (g .0))
 
+number-of : {a b : Answer} → a ≡ b → a .number ≡ b .number
+number-of e = ap (λ (x : Answer). x .number) e
+
+early-one : (qs : List Question) → Numbered true qs → answerTo qs .number ≢ 0 → isEarly (answerTo qs .number) ≡ true
+early-one qs g h = there (answer-numbered true qs g)
+  where
+    there : (answerTo qs .number ≡ 0) ⊎ (isEarly (answerTo qs .number) ≡ true) → isEarly (answerTo qs .number) ≡ true
+    there (inl e) = absurd (h e)
+    there (inr e) = e
+
+none-early : isEarly 0 ≡ false
+unfolding isEarly
+none-early = refl
+
+late-one : (qs : List Question) → Numbered false qs → isEarly (answerTo qs .number) ≡ false
+late-one qs g = there (answer-numbered false qs g)
+  where
+    there : (answerTo qs .number ≡ 0) ⊎ (isEarly (answerTo qs .number) ≡ false) → isEarly (answerTo qs .number) ≡ false
+    there (inl e) = rw e none-early
+    there (inr e) = e
+
+pick : (n m : ℕ) (b : Bool) → isEarly n ≡ b → cond (isEarly n) n m ≡ cond b n m
+pick n m b e = rw e refl
+
+module _ (room : Bool) where
+  last-asked : (b : Bool) → b ≡ room → numberOf (whole 34 room ∷ []) ≡ cond room 0 34
+  last-asked true e = asked-yes 34 room [] (sym e) ∙ asked-none ∙ (rw (← e) refl)
+  last-asked false e = asked-no 34 room [] (sym e) ∙ (rw (← e) refl)
+
+  -- early questions, then 34 in place of late ones
+  rest-asks : (ps qs : List Question) → Numbered true ps → Numbered false qs → Real ps
+      → answerTo (ps ++ whole 34 room ∷ []) .number ≡ cond (isEarly (answerTo (ps ++ qs) .number)) (answerTo (ps ++ qs) .number) (cond room 0 34)
+  unfolding numberOf
+  rest-asks ps qs early late real = go (ℕ-discrete (answerTo ps .number) 0)
+    where
+      go : Dec (answerTo ps .number ≡ 0)
+          → answerTo (ps ++ whole 34 room ∷ []) .number ≡ cond (isEarly (answerTo (ps ++ qs) .number)) (answerTo (ps ++ qs) .number) (cond room 0 34)
+      go (no h) =
+          let n : answerTo (ps ++ qs) .number ≡ answerTo ps .number = number-of (stopped-first ps qs h) in
+          number-of (stopped-first ps (whole 34 room ∷ []) h) ∙ sym (rw n (pick (answerTo ps .number) (cond room 0 34) true (early-one ps early h)))
+      go (yes h) =
+          let n : answerTo (ps ++ qs) .number ≡ answerTo qs .number = number-of (then-asked ps qs real h) in
+          number-of (then-asked ps (whole 34 room ∷ []) real h) ∙ last-asked room refl ∙ sym (rw n (pick (answerTo qs .number) (cond room 0 34) false (late-one qs late)))
+
 module _ (s : List ℕ) where
   numbered-tables : (q : ℕ) → isEarly q ≡ true → (ts : List Table) (ok : Table → ℕ → Bool) → Numbered true (eachTable s q ts ok)
   unfolding eachTable each
   numbered-tables q l [] ok = tt
   numbered-tables q l (t ∷ ts) ok = (l, numbered-tables q l ts ok)
 
-  abbrev early : List Question
-  early = imageQuestions s ++ rowQuestions s ++ take 4 (pieceQuestions s)
+  -- what is asked before 40, what after it up to 10, and what after that
+  abbrev first : List Question
+  first = imageQuestions s ++ rowQuestions s
+
+  abbrev four : List Question
+  four = take 4 (pieceQuestions s)
 
   abbrev late : List Question
   late = drop 4 (pieceQuestions s) ++ (streamQuestions s ++ (bufferQuestions s ++ chainQuestions s))
@@ -73,78 +122,81 @@ module _ (s : List ℕ) where
   unfolding pieceQuestions each isEarly
   four-early = (refl, (refl, (refl, (refl, tt))))
 
-  all-early : Numbered true early
-  all-early =
-      numbered-append true (imageQuestions s ++ rowQuestions s) (take 4 (pieceQuestions s))
-      (numbered-append true (imageQuestions s) (rowQuestions s) image-early rows-early) four-early
+  first-early : Numbered true first
+  first-early = numbered-append true (imageQuestions s) (rowQuestions s) image-early rows-early
 
   all-late : Numbered false late
   unfolding pieceQuestions streamQuestions bufferQuestions chainQuestions each isEarly
-  all-late = (refl, (refl, (refl, (refl, (refl, (refl, (refl, (refl, (refl, (refl, (refl, (refl, (refl, (refl, (refl, (refl, (refl, tt)))))))))))))))))
+  all-late = (refl, (refl, (refl, (refl, (refl, (refl, (refl, (refl, (refl, (refl, (refl, (refl, (refl, (refl, (refl, (refl, (refl, (refl, tt))))))))))))))))))
 
-  -- both together are the check's
-  checked : answerOf s ≡ answerTo (early ++ late)
+  -- with 40 they are the check's
+  checked : answerOf s ≡ answerTo (first ++ (queueQuestions s ++ (four ++ late)))
   unfolding answerOf questions planQuestions
-  checked = ap answerTo whole-list
+  checked =
+      ap answerTo
+      (append-assoc first (queueQuestions s) (planQuestions s) ∙ ap (λ (qs : List Question). first ++ (queueQuestions s ++ qs)) parts)
     where
-      parts : planQuestions s ≡ take 4 (pieceQuestions s) ++ late
+      parts : planQuestions s ≡ four ++ late
       parts =
           append-assoc (pieceQuestions s ++ streamQuestions s) (bufferQuestions s) (chainQuestions s)
           ∙ append-assoc (pieceQuestions s) (streamQuestions s) (bufferQuestions s ++ chainQuestions s)
           ∙ ap (λ (qs : List Question). qs ++ (streamQuestions s ++ (bufferQuestions s ++ chainQuestions s))) (sym (take-append-drop 4 (pieceQuestions s)))
-          ∙ append-assoc (take 4 (pieceQuestions s)) (drop 4 (pieceQuestions s)) (streamQuestions s ++ (bufferQuestions s ++ chainQuestions s))
+          ∙ append-assoc four (drop 4 (pieceQuestions s)) (streamQuestions s ++ (bufferQuestions s ++ chainQuestions s))
 
-      whole-list : imageQuestions s ++ rowQuestions s ++ planQuestions s ≡ early ++ late
-      whole-list =
-          ap (λ (qs : List Question). imageQuestions s ++ rowQuestions s ++ qs) parts
-          ∙ sym (append-assoc (imageQuestions s ++ rowQuestions s) (take 4 (pieceQuestions s)) late)
+  real-first : Real first
+  real-first = real-append (imageQuestions s) (rowQuestions s) (real-image s) (real-rows s)
 
-  real-early : Real early
-  real-early =
-      real-append (imageQuestions s ++ rowQuestions s) (take 4 (pieceQuestions s)) (real-append (imageQuestions s) (rowQuestions s) (real-image s) (real-rows s)) (real-four s)
+  -- 40 gives its own number, or none
+  queue-number : answerTo (queueQuestions s) .number ≢ 0 → answerTo (queueQuestions s) .number ≡ 40
+  unfolding queueQuestions each named answerTo
+  queue-number h = go (firstNo (q .many) (q .ok)) refl
+    where
+      q : Question
+      q = each s 40 Streams (queueFits s)
+
+      go : (f : Found) → firstNo (q .many) (q .ok) ≡ f → answerTo (queueQuestions s) .number ≡ 40
+      go Nothing e = absurd (h (number-of (no-row q [] e)))
+      go (At r) e = number-of (a-row q [] r e)
+
+  past-first : answerTo first .number ≡ 0 → answerOf s ≡ answerTo (queueQuestions s ++ (four ++ late))
+  past-first e = checked ∙ then-asked first (queueQuestions s ++ (four ++ late)) real-first e
 
   module _ (w : List ℕ) where
     abbrev room : Bool
     room = leb draftWords (length w)
 
-    number-of : {a b : Answer} → a ≡ b → a .number ≡ b .number
-    number-of e = ap (λ (x : Answer). x .number) e
-
-    last-asked : (b : Bool) → b ≡ room → numberOf (whole 34 room ∷ []) ≡ cond room 0 34
-    last-asked true e = asked-yes 34 room [] (sym e) ∙ asked-none ∙ (rw (← e) refl)
-    last-asked false e = asked-no 34 room [] (sym e) ∙ (rw (← e) refl)
-
-    pick : (n m : ℕ) (b : Bool) → isEarly n ≡ b → cond (isEarly n) n m ≡ cond b n m
-    pick n m b e = rw e refl
-
-    none-early : isEarly 0 ≡ false
-    unfolding isEarly
-    none-early = refl
-
-    asks : makeNumber s w ≡ cond (isEarly (answerOf s .number)) (answerOf s .number) (cond room 0 34)
+    asked-all : makeNumber s w ≡ answerTo (first ++ (four ++ whole 34 room ∷ [])) .number
     unfolding makeNumber numberOf
-    asks = go (ℕ-discrete (answerTo early .number) 0)
+    asked-all = number-of (ap answerTo (append-assoc first four (whole 34 room ∷ [])))
+
+    make-past-first : answerTo first .number ≡ 0 → makeNumber s w ≡ answerTo (four ++ whole 34 room ∷ []) .number
+    make-past-first e = asked-all ∙ number-of (then-asked first (four ++ whole 34 room ∷ []) real-first e)
+
+    asks : answerOf s .number ≢ 40 → makeNumber s w ≡ cond (isEarly (answerOf s .number)) (answerOf s .number) (cond room 0 34)
+    asks other = go (ℕ-discrete (answerTo first .number) 0) (ℕ-discrete (answerTo (queueQuestions s) .number) 0)
       where
-        stays : answerTo early .number ≢ 0 → isEarly (answerTo early .number) ≡ true
-        stays h = there (answer-numbered true early all-early)
-          where
-            there : (answerTo early .number ≡ 0) ⊎ (isEarly (answerTo early .number) ≡ true) → isEarly (answerTo early .number) ≡ true
-            there (inl e) = absurd (h e)
-            there (inr e) = e
+        go : Dec (answerTo first .number ≡ 0) → Dec (answerTo (queueQuestions s) .number ≡ 0)
+            → makeNumber s w ≡ cond (isEarly (answerOf s .number)) (answerOf s .number) (cond room 0 34)
+        go (no h) q =
+            let n : answerOf s .number ≡ answerTo first .number = number-of (checked ∙ stopped-first first (queueQuestions s ++ (four ++ late)) h) in
+            asked-all ∙ number-of (stopped-first first (four ++ whole 34 room ∷ []) h) ∙ sym (rw n (pick (answerTo first .number) (cond room 0 34) true (early-one first first-early h)))
+        go (yes h) (no q) = absurd (other (number-of (past-first h ∙ stopped-first (queueQuestions s) (four ++ late) q) ∙ queue-number q))
+        go (yes h) (yes q) =
+            let n : answerOf s .number ≡ answerTo (four ++ late) .number = number-of (past-first h ∙ then-asked (queueQuestions s) (four ++ late) (real-queues s) q) in
+            make-past-first h ∙ rw n (rest-asks room four late four-early all-late (real-four s))
 
-        not-late : (answerTo late .number ≡ 0) ⊎ (isEarly (answerTo late .number) ≡ false) → isEarly (answerTo late .number) ≡ false
-        not-late (inl e) = rw e none-early
-        not-late (inr e) = e
-
-        go : Dec (answerTo early .number ≡ 0)
-            → answerTo (early ++ whole 34 room ∷ []) .number ≡ cond (isEarly (answerOf s .number)) (answerOf s .number) (cond room 0 34)
+    passes-40 : answerOf s .number ≡ 40 → makeNumber s w ≡ numberOf (four ++ whole 34 room ∷ [])
+    unfolding numberOf isEarly
+    passes-40 e = go (ℕ-discrete (answerTo first .number) 0)
+      where
+        go : Dec (answerTo first .number ≡ 0) → makeNumber s w ≡ answerTo (four ++ whole 34 room ∷ []) .number
+        go (yes h) = make-past-first h
         go (no h) =
-            let n : answerOf s .number ≡ answerTo early .number = number-of (checked ∙ stopped-first early late h) in
-            number-of (stopped-first early (whole 34 room ∷ []) h) ∙ sym (rw n (pick (answerTo early .number) (cond room 0 34) true (stays h)))
-        go (yes h) =
-            let n : answerOf s .number ≡ answerTo late .number = number-of (checked ∙ then-asked early late real-early h) in
-            number-of (then-asked early (whole 34 room ∷ []) real-early h) ∙ last-asked room refl
-            ∙ sym (rw n (pick (answerTo late .number) (cond room 0 34) false (not-late (answer-numbered false late all-late))))
+            let n : answerTo first .number ≡ 40 = sym (number-of (checked ∙ stopped-first first (queueQuestions s ++ (four ++ late)) h)) ∙ e in
+            absurd (true≢false (sym (early-one first first-early h) ∙ ap isEarly n))
 
 pub make-asks : MakeAsks
 make-asks s w = asks s w
+
+pub make-passes-40 : MakePasses40
+make-passes-40 s w = passes-40 s w

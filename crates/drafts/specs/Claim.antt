@@ -1,16 +1,17 @@
 -- What holds of drafts (paper 02, request 6): after any list of edits, and of any words.
 use Prim.Native.Nat.{ℕ, _+_, _<_, _≤_}
 use mathlib.Core.Path.{_≡_}
+use mathlib.Core.Logic.{_≢_}
 use mathlib.Core.Bool.{Bool, true, false, _&&_, _||_, cond}
-use mathlib.Core.List.{List, _∷_, []}
-use lib.ListN.{length, getD}
+use mathlib.Core.List.{List, _∷_, _++_, []}
+use lib.ListN.{length, getD, take}
 use lib.Seq.{sets}
 use lib.Dec.{ltb, leb, eqb}
 use Rattle.plan.specs.declared.Piece.{Piece}
 use Rattle.plan.specs.declared.Table.the-variants.{Cores, Tasks, Pieces}
 use Rattle.plan.specs.Search.{sum}
 use Rattle.plan.specs.Image.{rows, piece}
-use Rattle.plan.specs.Questions.{whole, answerOf, names, pieceFits, jobs, release, due, coreOf, switchTicks}
+use Rattle.plan.specs.Questions.{whole, answerOf, names, pieceFits, pieceQuestions, jobs, release, due, coreOf, switchTicks}
 use Rattle.drafts.specs.Drafts.{draftWords, places, jobSum, coreSum, isDraft}
 use Rattle.drafts.specs.Edits.{numberOf, leaves, gives, pieceOf, pieceWords, makeNumber, makeWords, madePiece, noPiece, addNumber, addWords, removeNumber, removeWords, moveNumber, moveWords}
 use Rattle.drafts.specs.Edits.{placeNumber, placeLeaves, jobNumber, jobValue, coreNumber, coreValue}
@@ -89,13 +90,20 @@ TotalsKept =
     → DraftOf s (afterEdits (makeWords s w) es) (heldAfterAll s (madePiece s) es)
 
 -- Making asks the check's questions 1 to 10 and 32, in the check's order, and of an image that passes them 34: where the check gives one of
--- these numbers so does making, and whatever else the check gives is not asked.
+-- these numbers so does making, and whatever else the check gives is not asked. 40, which the check asks between 6 and 7, is not asked either: of an
+-- image that it refuses, making asks 7 to 10, then 34.
 unfoldable pub isEarly : ℕ → Bool
 isEarly n = (leb 1 n && leb n 10) || eqb n 32
 
 abbrev pub MakeAsks : Type 0
 MakeAsks =
-    (s w : List ℕ) → makeNumber s w ≡ cond (isEarly (answerOf s .number)) (answerOf s .number) (cond (leb draftWords (length w)) 0 34)
+    (s w : List ℕ) → answerOf s .number ≢ 40
+    → makeNumber s w ≡ cond (isEarly (answerOf s .number)) (answerOf s .number) (cond (leb draftWords (length w)) 0 34)
+
+abbrev pub MakePasses40 : Type 0
+MakePasses40 =
+    (s w : List ℕ) → answerOf s .number ≡ 40
+    → makeNumber s w ≡ numberOf (take 4 (pieceQuestions s) ++ whole 34 (leb draftWords (length w)) ∷ [])
 
 -- every row of the image has a place, and 5 and 10 of a piece by itself are those of its row
 abbrev pub RowsArePlaces : Type 0

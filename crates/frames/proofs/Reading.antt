@@ -89,6 +89,10 @@ module _ (s : List ℕ) where
           go Nothing q = absurd (true≢false (sym (none-iff other (rows s Frames) .0 q (the-one .0) (the-one .1 .0)) ∙ ap not (the-one .1 .1)))
           go (At i) q = let w = at-iff other (rows s Frames) i .0 q in rw (q, frameOf) (sym (the-one .2 i (w .below, yes-of _ (w .says-no))))
 
+      -- a frame of the hop is it
+      pub frame-own : (f : ℕ) → f < rows s Frames → ofHop s m k h f ≡ true → frameOf s m k h ≡ f
+      frame-own f d e = sym lowest-is ∙ sym (the-one .2 f (d, e))
+
       pub frame-exists : frameOf s m k h < rows s Frames
       frame-exists = subst (λ (f : ℕ). f < rows s Frames) lowest-is (the-one .1 .0)
 

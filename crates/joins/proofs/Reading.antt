@@ -77,7 +77,7 @@ some-width Buffers = omega arith
 some-width Chains = omega arith
 
 -- the largest image
-pub most-is : mostBytes tables ≡ 64860
+pub most-is : mostBytes tables ≡ 65116
 unfolding image
 most-is = refl
 
@@ -231,7 +231,7 @@ module _ (a b : List ℕ) (s : ℕ) (ba : AreBytes a) (bb : AreBytes b) (ea : an
   -- ---- the joined image
 
   module _ (fit : rowsFit rs tables ≡ true) where
-    pub joined-most : length (Joins.joinedImage a b s) ≤ 64860
+    pub joined-most : length (Joins.joinedImage a b s) ≤ 65116
     joined-most = omega (arith, joined-long a b s, words-most rs joined-wide tables fit, most-is, trailer-is)
 
     layout-small : Small (layoutFrom rs 0 tables)

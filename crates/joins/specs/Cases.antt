@@ -45,7 +45,7 @@ bothTasks start =
     ∷ 100 ∷ 0 ∷ 100 ∷ 0 ∷ 100 ∷ 0 ∷ 100 ∷ 0 ∷ 100 ∷ 0
     ∷ 100 ∷ []  -- the last word
 
--- B with its pieces and its frame four ticks later, and a link's delay
+-- B with its pieces and its frame four ticks later, in queue 5, and a link's delay
 unfoldable laterB : ℕ → List ℕ
 laterB delay =
     0 ∷ 1 ∷ 2 ∷ 1 ∷ 1 ∷ 2  -- cores
@@ -54,12 +54,12 @@ laterB delay =
     ∷ 0 ∷ 0 ∷ 20 ∷ 1 ∷ 0 ∷ 20  -- windows
     ∷ 0 ∷ 0 ∷ 6 ∷ 4 ∷ 1 ∷ 0 ∷ 14 ∷ 4  -- pieces
     ∷ 0 ∷ 1 ∷ delay ∷ 352 ∷ 0  -- link
-    ∷ 0 ∷ 1 ∷ 13 ∷ 1 ∷ 46  -- stream
+    ∷ 0 ∷ 1 ∷ 13 ∷ 1 ∷ 46 ∷ 5  -- stream
     ∷ 0 ∷ 0 ∷ 0 ∷ 0 ∷ 10  -- frame
     ∷ 20 ∷ 1  -- H, P
     ∷ 0 ∷ 2 ∷ 24 ∷ 2 ∷ 32 ∷ 2 ∷ 72 ∷ 2 ∷ 96 ∷ 2  -- offsets and counts
-    ∷ 128 ∷ 1 ∷ 148 ∷ 1 ∷ 168 ∷ 1 ∷ 188 ∷ 0 ∷ 188 ∷ 0
-    ∷ 188 ∷ []  -- the last word
+    ∷ 128 ∷ 1 ∷ 148 ∷ 1 ∷ 172 ∷ 1 ∷ 192 ∷ 0 ∷ 192 ∷ 0
+    ∷ 192 ∷ []  -- the last word
 
 -- B after it: B's pieces and frame come first again, and B's stream is number 1
 unfoldable bothB : List ℕ
@@ -70,12 +70,12 @@ bothB =
     ∷ 0 ∷ 0 ∷ 20 ∷ 1 ∷ 0 ∷ 20  -- windows
     ∷ 2 ∷ 0 ∷ 2 ∷ 4 ∷ 0 ∷ 0 ∷ 6 ∷ 4 ∷ 3 ∷ 0 ∷ 10 ∷ 4 ∷ 1 ∷ 0 ∷ 14 ∷ 4  -- pieces
     ∷ 0 ∷ 1 ∷ 1 ∷ 352 ∷ 0  -- link
-    ∷ 0 ∷ 1 ∷ 13 ∷ 1 ∷ 46 ∷ 2 ∷ 3 ∷ 13 ∷ 1 ∷ 46  -- streams
+    ∷ 0 ∷ 1 ∷ 13 ∷ 1 ∷ 46 ∷ 5 ∷ 2 ∷ 3 ∷ 13 ∷ 1 ∷ 46 ∷ 0  -- streams
     ∷ 1 ∷ 0 ∷ 0 ∷ 0 ∷ 6 ∷ 0 ∷ 0 ∷ 0 ∷ 0 ∷ 10  -- frames
     ∷ 20 ∷ 1  -- H, P
     ∷ 0 ∷ 2 ∷ 24 ∷ 2 ∷ 32 ∷ 4 ∷ 112 ∷ 2 ∷ 136 ∷ 4  -- offsets and counts
-    ∷ 200 ∷ 1 ∷ 220 ∷ 2 ∷ 260 ∷ 2 ∷ 300 ∷ 0 ∷ 300 ∷ 0
-    ∷ 300 ∷ []  -- the last word
+    ∷ 200 ∷ 1 ∷ 220 ∷ 2 ∷ 268 ∷ 2 ∷ 308 ∷ 0 ∷ 308 ∷ 0
+    ∷ 308 ∷ []  -- the last word
 
 -- ---- plans by their tables: how many rows, and their words
 
@@ -127,7 +127,7 @@ longer =
     ∷ around cores vcpus windows (2, 0 ∷ 1 ∷ 1 ∷ 100 ∷ 0 ∷ 0 ∷ 1 ∷ 1 ∷ 100 ∷ 0 ∷ [])
     ∷ []
 
--- B's cores and tasks, the receiver later, and a third task on the sender's core; with these streams, frames, buffers and chains
+-- B's cores and tasks, the receiver later, a third task on the sender's core and three links like B's; with these streams, frames, buffers and chains
 unfoldable sending : ℕ × List ℕ → ℕ × List ℕ → ℕ × List ℕ → ℕ × List ℕ → List ℕ
 sending m f b x =
     plan 20 1
@@ -137,7 +137,7 @@ sending m f b x =
     ∷ (3, 0 ∷ 3 ∷ 20 ∷ 3 ∷ 20 ∷ 1 ∷ 3 ∷ 20 ∷ 3 ∷ 20 ∷ 0 ∷ 3 ∷ 20 ∷ 1 ∷ 20 ∷ [])
     ∷ (2, 0 ∷ 0 ∷ 20 ∷ 1 ∷ 0 ∷ 20 ∷ [])
     ∷ (3, 0 ∷ 0 ∷ 2 ∷ 4 ∷ 1 ∷ 0 ∷ 14 ∷ 4 ∷ 2 ∷ 0 ∷ 18 ∷ 2 ∷ [])
-    ∷ (1, 0 ∷ 1 ∷ 1 ∷ 352 ∷ 0 ∷ [])
+    ∷ (3, 0 ∷ 1 ∷ 1 ∷ 352 ∷ 0 ∷ 0 ∷ 1 ∷ 1 ∷ 352 ∷ 0 ∷ 0 ∷ 1 ∷ 1 ∷ 352 ∷ 0 ∷ [])
     ∷ m
     ∷ f
     ∷ b
@@ -145,12 +145,12 @@ sending m f b x =
     ∷ []
     )
 
--- streams from task 0 to task 1 by their latency; frames by stream and start
+-- streams from task 0 to task 1 by their latency, all in queue 0; frames by stream, link and start
 unfoldable streams : List ℕ → ℕ × List ℕ
-streams es = (length es, flatMap (λ e. 0 ∷ 1 ∷ e ∷ 1 ∷ 46 ∷ []) es)
+streams es = (length es, flatMap (λ e. 0 ∷ 1 ∷ e ∷ 1 ∷ 46 ∷ 0 ∷ []) es)
 
-unfoldable frames : List (ℕ × ℕ) → ℕ × List ℕ
-frames fs = (length fs, flatMap (λ f. f .0 ∷ 0 ∷ 0 ∷ 0 ∷ f .1 ∷ []) fs)
+unfoldable frames : List (ℕ × ℕ × ℕ) → ℕ × List ℕ
+frames fs = (length fs, flatMap (λ f. f .0 ∷ 0 ∷ 0 ∷ f .1 ∷ f .2 ∷ []) fs)
 
 -- C's core, VCPU and window, with n tasks like C's, these pieces by task and start, and these buffers and chains
 unfoldable holding : ℕ → List (ℕ × ℕ) → ℕ × List ℕ → ℕ × List ℕ → List ℕ
@@ -189,10 +189,10 @@ withoutTask = counted none none
 
 -- two equal streams; three different ones
 unfoldable twoStreams : List ℕ
-twoStreams = sending (streams (18 ∷ 18 ∷ [])) (frames ((0, 6) ∷ (1, 8) ∷ [])) none none
+twoStreams = sending (streams (18 ∷ 18 ∷ [])) (frames ((0, 0, 6) ∷ (1, 1, 8) ∷ [])) none none
 
 unfoldable threeStreams : List ℕ
-threeStreams = sending (streams (19 ∷ 18 ∷ 17 ∷ [])) (frames ((1, 6) ∷ (0, 8) ∷ (2, 10) ∷ [])) none none
+threeStreams = sending (streams (19 ∷ 18 ∷ 17 ∷ [])) (frames ((1, 0, 6) ∷ (0, 1, 8) ∷ (2, 2, 10) ∷ [])) none none
 
 -- C with these chains
 unfoldable chained : ℕ × List ℕ → List ℕ
@@ -227,7 +227,7 @@ taskJoins =
     ∷ makes caseA caseA 1 (bytes caseA)  -- equal rows are one
     ∷ makes caseB caseB 2 (bytes caseB)
     ∷ makes (laterB 1) caseB 0 (bytes bothB)
-    ∷ answers (laterB 1) caseB 0 392 accepted
+    ∷ answers (laterB 1) caseB 0 400 accepted
     ∷ joined caseA caseA 0 200 (answer 12 5 1) 192  -- the result is refused, and written
     ∷ answers caseA (other 3 8 4 4) 1 200 (answer 12 5 1)  -- a shared task with other pieces
     ∷ answers caseA (other 3 8 2 4) 1 156 accepted
@@ -238,15 +238,15 @@ otherJoins : List Join
 otherJoins =
     -- equal streams of the second are both appended; of the first's equal streams the lowest is taken
     makes (sending none none none none) twoStreams 3 (bytes twoStreams)
-    ∷ makes twoStreams twoStreams 3 (bytes (sending (streams (18 ∷ 18 ∷ [])) (frames ((0, 6) ∷ (0, 8) ∷ (1, 8) ∷ [])) none none))
+    ∷ makes twoStreams twoStreams 3 (bytes (sending (streams (18 ∷ 18 ∷ [])) (frames ((0, 0, 6) ∷ (0, 1, 8) ∷ (1, 1, 8) ∷ [])) none none))
     ∷ answers twoStreams twoStreams 3 500 (answer 16 7 0)
     -- the second's stream 1 is the first's 0, its streams 0 and 2 are appended
-    ∷ makes (sending (streams (18 ∷ [])) (frames ((0, 6) ∷ [])) none none) threeStreams 3
-    (bytes (sending (streams (18 ∷ 19 ∷ 17 ∷ [])) (frames ((0, 6) ∷ (1, 8) ∷ (2, 10) ∷ [])) none none))
+    ∷ makes (sending (streams (18 ∷ [])) (frames ((0, 0, 6) ∷ [])) none none) threeStreams 3
+    (bytes (sending (streams (18 ∷ 19 ∷ 17 ∷ [])) (frames ((0, 0, 6) ∷ (1, 1, 8) ∷ (2, 2, 10) ∷ [])) none none))
     -- a stream with a new number beside a buffer and a chain, whose tasks have their own
-    ∷ makes (sending (streams (18 ∷ [])) (frames ((0, 6) ∷ [])) none none)
-    (sending (streams (19 ∷ [])) (frames ((0, 8) ∷ [])) (1, 5 ∷ 0 ∷ 2 ∷ []) (1, 0 ∷ 1 ∷ 20 ∷ [])) 3
-    (bytes (sending (streams (18 ∷ 19 ∷ [])) (frames ((0, 6) ∷ (1, 8) ∷ [])) (1, 5 ∷ 0 ∷ 2 ∷ []) (1, 0 ∷ 1 ∷ 20 ∷ [])))
+    ∷ makes (sending (streams (18 ∷ [])) (frames ((0, 0, 6) ∷ [])) none none)
+    (sending (streams (19 ∷ [])) (frames ((0, 1, 8) ∷ [])) (1, 5 ∷ 0 ∷ 2 ∷ []) (1, 0 ∷ 1 ∷ 20 ∷ [])) 3
+    (bytes (sending (streams (18 ∷ 19 ∷ [])) (frames ((0, 0, 6) ∷ (1, 1, 8) ∷ [])) (1, 5 ∷ 0 ∷ 2 ∷ []) (1, 0 ∷ 1 ∷ 20 ∷ [])))
     -- C after another task: its buffers and its chain are renumbered
     ∷ makes (holding 1 ((0, 14) ∷ []) none none) caseC 0
     (bytes (holding 5 ((1, 2) ∷ (2, 5) ∷ (3, 8) ∷ (4, 11) ∷ (0, 14) ∷ []) (2, 0 ∷ 1 ∷ 2 ∷ 0 ∷ 3 ∷ 4 ∷ []) (1, 1 ∷ 2 ∷ 6 ∷ [])))

@@ -1,11 +1,12 @@
-// Questions 14, 15, 17, 18, 20 and 21 (paper 01, "The questions"), each of one stream, frame or job.
+// Questions 14, 15, 17, 18, 20 and 21 (paper 01, "The questions"), each of one stream, frame or job; and when a frame's stay begins, for 41 (paper 02,
+// request 13).
 ghost use mathlib.Core.Path.{_≡_};
 ghost use Prim.Native.Nat.{_<_};
 ghost use Rattle.plan.specs.declared.Table.the-variants.{Streams, Frames};
 ghost use Rattle.plan.specs.Image.{rows};
 ghost use Rattle.plan.specs.Held.{Sound};
 ghost use Rattle.plan.specs.Questions.{streamEnds, frameFits, joined, hopWaits};
-ghost use Rattle.plan.specs.Questions.{messageWaits, inTime};
+ghost use Rattle.plan.specs.Questions.{messageWaits, inTime, stayFrom};
 ghost use Rattle.jobs.specs.Times.{Timed};
 ghost use Rattle.frames.specs.Index.{Framed, Indexed, JobOf};
 use frames::frame_of;
@@ -21,6 +22,7 @@ use terms::frame_end;
 use terms::jobs_of;
 use terms::limit_of;
 use terms::node_of;
+use terms::over_from;
 use terms::stream_period;
 
 // 14: have sender and receiver equal periods and different nodes?
@@ -106,4 +108,19 @@ pub fn in_time(image: &[u8], times: &[u32], stream: u32, job: u32) -> bool
     let end = last_end(image, times, m.receiver, job) as u64 + precision_ticks(image) as u64;
     let start = first_start(image, times, m.sender, job) as u64;
     end <= limit_of(image, stream) as u64 + start
+}
+
+// 41: where a frame's stay on its link begins: for hop 0 at the sender job's last end, else when some of it may be over the previous hop's link.
+pub fn stay_from(image: &[u8], times: &[u32], index: &[u32], frame: u32) -> u64
+    requires { ⌜ Timed (now image) (now times) × (Framed (now image) × (frame < rows (now image) Frames)) ⌝ }
+    requires { ⌜ Indexed (now image) (now index) ⌝ }
+    ensures { λ r. ⌜ r ≡ stayFrom (now (image .entry)) frame ⌝ }
+{
+    let f = frame_at(image, frame);
+    if f.hop == 0 {
+        let sender = stream_at(image, f.stream).sender;
+        return last_end(image, times, sender, f.job) as u64;
+    }
+    let before = frame_of(image, index, f.stream, f.job, f.hop - 1);
+    over_from(image, before)
 }

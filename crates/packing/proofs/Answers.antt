@@ -11,7 +11,7 @@ use Rattle.plan.specs.declared.Table.{Table}
 use Rattle.plan.specs.declared.Table.the-variants.{Cores, Vcpus, Tasks, Windows, Pieces, Links, Streams, Frames, Buffers, Chains}
 use Rattle.plan.specs.Image.{shape, tables}
 use Rattle.plan.specs.Search.{firstNo}
-use Rattle.plan.specs.Questions.{Question, whole, each, eachTable, names, inOrder, inRange, imageQuestions, rowQuestions, pieceQuestions, streamQuestions, bufferQuestions, chainQuestions, planQuestions, questions, answerTo, answerOf}
+use Rattle.plan.specs.Questions.{Question, whole, each, eachTable, names, inOrder, inRange, imageQuestions, rowQuestions, queueQuestions, pieceQuestions, streamQuestions, bufferQuestions, chainQuestions, planQuestions, questions, answerTo, answerOf}
 use Rattle.plan.specs.Dispatch.{buildAnswer}
 use Rattle.plan.specs.Boundary.{answerNumber}
 
@@ -47,6 +47,10 @@ module _ (s : List ℕ) where
   image-narrow : Narrow (imageQuestions s)
   unfolding imageQuestions whole
   image-narrow = omega arith
+
+  queues-narrow : Narrow (queueQuestions s)
+  unfolding queueQuestions each shape
+  queues-narrow = omega arith
 
   pieces-narrow : Narrow (pieceQuestions s)
   unfolding pieceQuestions each shape
@@ -84,7 +88,8 @@ module _ (s : List ℕ) where
   pub questions-narrow : Narrow (questions s)
   unfolding questions
   questions-narrow =
-      narrow-append (imageQuestions s ++ rowQuestions s) (planQuestions s) (narrow-append (imageQuestions s) (rowQuestions s) image-narrow rows-narrow) plan-narrow
+      let im = imageQuestions s in let rs = rowQuestions s in let qs = queueQuestions s in
+      narrow-append (im ++ rs ++ qs) (planQuestions s) (narrow-append (im ++ rs) qs (narrow-append im rs image-narrow rows-narrow) queues-narrow) plan-narrow
 
 abbrev pub Small : Answer → Type 0
 Small a = (a .number < 2 ^ 16) × (a .table < 2 ^ 16)

@@ -22,19 +22,20 @@ use Rattle.plan.proofs.Searching.{and-true, none-iff}
 use Rattle.plan.proofs.Meanings as Mean
 use Rattle.plan.proofs.Paths as Path
 use Rattle.plan.proofs.Facts.{Facts, facts-of}
+use Rattle.plan.proofs.Sounds.{first-of}
 use Rattle.plan.proofs.Answers.{accepted-holds}
 use Rattle.plan.proofs.Asking.{passed-all}
 use Rattle.plan.proofs.Messages.{joined-start, leads-jobs}
 use Rattle.tallies.proofs.Tallying.{smallest-top}
 use Rattle.paths.specs.Walks.{BeforeChains, messages, senderOf, readerOf, leadsTo, sentOn, Marked}
 
--- what 1 to 24 have shown, by name
+-- what 1 to 24 and 41 have shown, by name
 pub asked-facts : (s : List ℕ) → BeforeChains s → Facts s
 unfolding pieceQuestions streamQuestions bufferQuestions
 asked-facts s h =
     facts-of s (h .sound)
     (accepted-holds (pieceQuestions s) (R.pieceMeanings s) (Mean.piece-agree s) (passed-all (pieceQuestions s) (h .pieces)))
-    (accepted-holds (streamQuestions s) (R.streamMeanings s) (Mean.stream-agree s) (passed-all (streamQuestions s) (h .streams)))
+    (first-of 8 (R.streamMeanings s) (accepted-holds (streamQuestions s) (R.streamMeanings s) (Mean.stream-agree s) (passed-all (streamQuestions s) (h .streams))))
     (accepted-holds (bufferQuestions s) (R.bufferMeanings s) (Mean.buffer-agree s) (passed-all (bufferQuestions s) (h .buffers)))
 
 module _ (s : List ℕ) where

@@ -12,11 +12,11 @@ use Rattle.plan.specs.Search.{leads}
 use Rattle.plan.specs.Questions.{joins, firstStart, lastEnd, chainLimit, pieceQuestions, streamQuestions, bufferQuestions}
 use Rattle.plan.specs.Held.{Sound, Passed}
 
--- what questions 1 to 24 have shown
+-- what questions 1 to 24, 32 and 41 have shown
 pub record BeforeChains (s : List ℕ) : Type 0 where
   pub sound : Sound s
   pub pieces : Passed (pieceQuestions s) 7
-  pub streams : Passed (streamQuestions s) 8
+  pub streams : Passed (streamQuestions s) 9
   pub buffers : Passed (bufferQuestions s) 3
 
 module _ (s : List ℕ) where

@@ -6,7 +6,7 @@ use mathlib.Core.List.{List, _∷_, _++_, []}
 use native.Mathlib.Omega.{arith}
 use Rattle.plan.specs.declared.Table.{Table}
 use Rattle.plan.specs.Image.{tables}
-use Rattle.plan.specs.Questions.{Question, whole, each, eachTable, names, inOrder, inRange, imageQuestions, rowQuestions, pieceQuestions, streamQuestions, bufferQuestions, chainQuestions, planQuestions, questions, answerOf, accepted}
+use Rattle.plan.specs.Questions.{Question, whole, each, eachTable, names, inOrder, inRange, imageQuestions, rowQuestions, queueQuestions, pieceQuestions, streamQuestions, bufferQuestions, chainQuestions, planQuestions, questions, answerOf, accepted}
 use Rattle.plan.proofs.Asking.{Real, passed-of, passed-all}
 
 real-append : (ps qs : List Question) → Real ps → Real qs → Real (ps ++ qs)
@@ -30,6 +30,10 @@ module _ (s : List ℕ) where
       real-append (q5 ++ q32) q6 (real-append q5 q32 (real-tables 5 (omega arith) tables (names s)) (real-tables 32 (omega arith) tables (inOrder s)))
       (real-tables 6 (omega arith) tables (inRange s))
 
+  pub real-queues : Real (queueQuestions s)
+  unfolding queueQuestions each
+  real-queues = omega arith
+
   pub real-pieces : Real (pieceQuestions s)
   unfolding pieceQuestions each
   real-pieces = omega arith
@@ -48,7 +52,9 @@ module _ (s : List ℕ) where
 
   pub real : Real (questions s)
   unfolding questions
-  real = real-append (imageQuestions s ++ rowQuestions s) (planQuestions s) (real-append (imageQuestions s) (rowQuestions s) real-image real-rows) real-plan
+  real =
+      let im = imageQuestions s in let rs = rowQuestions s in let qs = queueQuestions s in
+      real-append (im ++ rs ++ qs) (planQuestions s) (real-append (im ++ rs) qs (real-append im rs real-image real-rows) real-queues) real-plan
 
   -- a check that gives 0 has accepted
   pub accepted-of : answerOf s .number ≡ 0 → answerOf s ≡ accepted

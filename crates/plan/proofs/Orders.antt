@@ -1,14 +1,14 @@
--- Rows in order (question 32): windows, pieces and frames rise by start.
+-- Rows in order (question 32): windows, pieces and frames rise by start; and a frame lasts.
 use Prim.Native.Nat.{ℕ, zero, suc, _-_, _≤_, _<_}
 use mathlib.Core.Path.{_≡_}
 use mathlib.Core.Logic.{_⊎_, inl, inr}
 use mathlib.Core.List.{List}
-use native.Mathlib.Nat.{eq-or-lt-of-le}
+use native.Mathlib.Nat.{eq-or-lt-of-le, le-div-iff-mul-le}
 use native.Mathlib.Numerals.{unary-clauses}
 use native.Mathlib.Omega.{arith}
-use Rattle.plan.specs.declared.Table.the-variants.{Windows, Pieces, Frames}
+use Rattle.plan.specs.declared.Table.the-variants.{Windows, Pieces, Links, Streams, Frames}
 use Rattle.plan.specs.Image.{rows, window, piece, frame}
-use Rattle.plan.specs.Questions.{orderWords}
+use Rattle.plan.specs.Questions.{orderWords, sendTicks, frameEnd}
 use Rattle.plan.specs.Held.{Sound}
 
 -- of words that rise the first does not fall
@@ -38,3 +38,11 @@ module _ (s : List ℕ) (h : Sound s) where
   pub frames-rise : (q r : ℕ) → q ≤ r → r < rows s Frames → frame s q .start ≤ frame s r .start
   unfolding orderWords
   frames-rise q r l m = rising (λ f. frame s f .start) (rows s Frames) (λ i b c. first-rises _ _ (h .order Frames i b c)) r q l m
+
+  -- a frame takes a tick at least
+  pub frames-last : (f : ℕ) → f < rows s Frames → frame s f .start < frameEnd s f
+  unfolding frameEnd sendTicks
+  frames-last f l =
+      let k = h .ranges Links _ (h .names Frames f l .1) in
+      let d : 1 ≤ sendTicks s f = le-div-iff-mul-le (k .4) .1 (omega (arith, k .4, h .ranges Streams _ (h .names Frames f l .0) .4)) in
+      omega arith

@@ -4,12 +4,16 @@ use mathlib.Core.List.{List}
 use native.Mathlib.Omega.{arith}
 use Rattle.plan.specs.declared.Table.the-variants.{Tasks, Windows, Pieces, Streams, Frames}
 use Rattle.plan.specs.Image.{cycleTicks}
-use Rattle.plan.specs.Questions.{pieceQuestions, streamQuestions, questionAt, each, pieceEnd}
-use Rattle.plan.specs.Reading.{WindowFits, WindowApart, PieceFits, PieceInside, TaskBudget, StreamEnds, FrameFits, EachJob, OneFrame}
-use Rattle.plan.specs.Held.{Passed}
+use Rattle.plan.specs.Questions.{queueQuestions, pieceQuestions, streamQuestions, questionAt, each, pieceEnd}
+use Rattle.plan.specs.Reading.{WindowFits, WindowApart, PieceFits, PieceInside, TaskBudget, StreamEnds, FrameFits, EachJob, OneFrame, HopWaits, MessageWaits}
+use Rattle.plan.specs.Held.{Passed, Queued}
 use Rattle.plan.proofs.Asking.{passed-row}
 use Rattle.plan.proofs.Meanings as M
 use Rattle.plan.proofs.Sounds.{Rows}
+
+pub queues-fit : (s : List ℕ) → Passed (queueQuestions s) 1 → Queued s
+unfolding queueQuestions questionAt each
+queues-fit s h m l = M.queue-fits s m .0 (passed-row (queueQuestions s) 1 h 0 (omega arith) m l)
 
 module _ (s : List ℕ) (n : ℕ) where
   module _ (h : Passed (pieceQuestions s) n) where
@@ -49,3 +53,11 @@ module _ (s : List ℕ) (n : ℕ) where
     pub one-frame : 3 ≤ n → Rows s Streams (EachJob s (OneFrame s))
     unfolding streamQuestions questionAt each
     one-frame l m k = M.each-job s (M.one-frame s) m .0 (passed-row (streamQuestions s) n h 2 l m k)
+
+    pub hops-wait : 5 ≤ n → Rows s Frames (HopWaits s)
+    unfolding streamQuestions questionAt each
+    hops-wait l f m = M.hop-waits s f .0 (passed-row (streamQuestions s) n h 4 l f m)
+
+    pub messages-wait : 7 ≤ n → Rows s Streams (EachJob s (MessageWaits s))
+    unfolding streamQuestions questionAt each
+    messages-wait l m k = M.each-job s (M.message-waits s) m .0 (passed-row (streamQuestions s) n h 6 l m k)

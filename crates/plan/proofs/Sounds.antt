@@ -1,14 +1,14 @@
 -- What questions 1 to 6 and 32 show: the image is sound (specs/Held). An accepted plan's is.
-use Prim.Native.Nat.{ℕ, _+_, _≤_, _<_}
+use Prim.Native.Nat.{ℕ, zero, suc, _+_, _≤_, _<_}
 use mathlib.Core.Path.{_≡_}
 use mathlib.Core.List.{List, _∷_, _++_, []}
 use native.Mathlib.Omega.{arith}
-use lib.ListN.{length}
+use lib.ListN.{length, take}
 use Rattle.plan.specs.declared.Table.{Table}
 use Rattle.plan.specs.declared.Table.the-variants.{Cores, Vcpus, Tasks, Windows, Pieces, Links, Streams, Frames, Buffers, Chains}
 use Rattle.plan.specs.Image.{tables, shape, rows, offset, tableEnd, trailerAt}
 use Rattle.plan.specs.Questions.{answerOf, accepted}
-use Rattle.plan.specs.Reading.{Meaning, AllHold, Holds, meanings, imageMeanings, rowMeanings, planMeanings, whole, each, eachTable, Laid, Names, InOrder, InRange}
+use Rattle.plan.specs.Reading.{Meaning, AllHold, Holds, meanings, imageMeanings, rowMeanings, queueMeanings, planMeanings, whole, each, eachTable, Laid, Names, InOrder, InRange}
 use Rattle.plan.specs.Held.{InImage, Sound}
 use Rattle.plan.proofs.Meanings.{accepted-means}
 
@@ -19,6 +19,11 @@ left (p ∷ ps) qs h = (h .0, left ps qs (h .1))
 pub right : (ps qs : List Meaning) → AllHold (ps ++ qs) → AllHold qs
 right [] qs h = h
 right (p ∷ ps) qs h = right ps qs (h .1)
+
+pub first-of : (n : ℕ) (ms : List Meaning) → AllHold ms → AllHold (take n ms)
+first-of zero ms h = tt
+first-of (suc n) [] h = tt
+first-of (suc n) (m ∷ ms) h = (h .0, first-of n ms (h .1))
 
 module _ (s : List ℕ) where
   abbrev pub Rows : Table → (ℕ → Type 0) → Type 0
@@ -102,6 +107,6 @@ module _ (s : List ℕ) where
   pub accepted-sound : answerOf s ≡ accepted → Sound s
   unfolding Holds meanings
   accepted-sound e =
-      let im = imageMeanings s in let m = rowMeanings s in
-      let h = left (im ++ m) (planMeanings s) (accepted-means s .0 e) in
+      let im = imageMeanings s in let m = rowMeanings s in let q = queueMeanings s in
+      let h = left (im ++ m) q (left (im ++ m ++ q) (planMeanings s) (accepted-means s .0 e)) in
       sound (left im m h) (right im m h)

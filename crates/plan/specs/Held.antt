@@ -3,9 +3,9 @@ use Prim.Native.Nat.{ℕ, _≤_, _<_}
 use mathlib.Core.List.{List}
 use lib.ListN.{length}
 use Rattle.plan.specs.declared.Table.{Table}
-use Rattle.plan.specs.declared.Table.the-variants.{Cores}
+use Rattle.plan.specs.declared.Table.the-variants.{Cores, Streams}
 use Rattle.plan.specs.Image.{shape, trailerBytes, tableEnd, rows, cycleTicks, precision}
-use Rattle.plan.specs.Reading.{Names, InOrder, InRange}
+use Rattle.plan.specs.Reading.{Names, InOrder, InRange, QueueFits}
 use Rattle.plan.specs.Search.{firstNo}
 use Rattle.plan.specs.Questions.{Question, questionAt, each}
 use Rattle.plan.specs.declared.Asked.{Asked}
@@ -29,6 +29,10 @@ pub record Sound (s : List ℕ) : Type 0 where
   pub names : (t : Table) (r : ℕ) → r < rows s t → Names s t r
   pub order : (t : Table) (r : ℕ) → r < rows s t → InOrder s t r
   pub ranges : (t : Table) (r : ℕ) → r < rows s t → InRange s t r
+
+-- 40: every stream's queue is in range
+abbrev pub Queued : List ℕ → Type 0
+Queued s = (m : ℕ) → m < rows s Streams → QueueFits s m
 
 -- the lowest row that says no to a question
 abbrev pub refusing : Question → Found

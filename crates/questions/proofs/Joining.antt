@@ -2,10 +2,11 @@
 use Prim.Native.Nat.{ℕ}
 use mathlib.Core.Path.{_≡_, ap, _∙_}
 use mathlib.Core.List.{List, _++_, append-assoc}
-use Rattle.plan.specs.Questions.{Question, answerTo, answerOf, questions, imageQuestions, rowQuestions, pieceQuestions, streamQuestions, bufferQuestions, chainQuestions, planQuestions}
-use Rattle.plan.specs.Held.{Sound, Passed}
-use Rattle.plan.proofs.Numbers.{real-image, real-rows, real-pieces, real-streams, real-buffers}
+use Rattle.plan.specs.Questions.{Question, answerTo, answerOf, questions, imageQuestions, rowQuestions, queueQuestions, pieceQuestions, streamQuestions, bufferQuestions, chainQuestions, planQuestions}
+use Rattle.plan.specs.Held.{Sound, Queued, Passed}
+use Rattle.plan.proofs.Numbers.{real-image, real-rows, real-queues, real-pieces, real-streams, real-buffers}
 use Rattle.plan.proofs.Asking.{then-asked, stopped-first, passed-of}
+use Rattle.plan.proofs.Passing.{queues-fit}
 use Rattle.paths.specs.Walks.{BeforeChains}
 
 module _ (s : List ℕ) where
@@ -13,11 +14,18 @@ module _ (s : List ℕ) where
   unfolding pieceQuestions
   pieces-passed e = passed-of (pieceQuestions s) (real-pieces s) e
 
+  pub queues-held : answerTo (queueQuestions s) .number ≡ 0 → Queued s
+  unfolding queueQuestions
+  queues-held e = queues-fit s (passed-of (queueQuestions s) (real-queues s) e)
+
   -- ---- the answer of all
 
-  chain : answerOf s ≡ answerTo (imageQuestions s ++ (rowQuestions s ++ planQuestions s))
+  chain : answerOf s ≡ answerTo (imageQuestions s ++ (rowQuestions s ++ (queueQuestions s ++ planQuestions s)))
   unfolding answerOf questions
-  chain = ap answerTo (append-assoc (imageQuestions s) (rowQuestions s) (planQuestions s))
+  chain =
+      ap answerTo
+      (append-assoc (imageQuestions s ++ rowQuestions s) (queueQuestions s) (planQuestions s)
+      ∙ append-assoc (imageQuestions s) (rowQuestions s) (queueQuestions s ++ planQuestions s))
 
   pub stop-image : (answerTo (imageQuestions s) .number ≡ 0 → ⊥) → answerOf s ≡ answerTo (imageQuestions s)
   stop-image h = chain ∙ stopped-first (imageQuestions s) _ h
@@ -26,8 +34,15 @@ module _ (s : List ℕ) where
     pub stop-rows : (answerTo (rowQuestions s) .number ≡ 0 → ⊥) → answerOf s ≡ answerTo (rowQuestions s)
     stop-rows h = chain ∙ then-asked (imageQuestions s) _ (real-image s) i ∙ stopped-first (rowQuestions s) _ h
 
-    pub to-plan : answerTo (rowQuestions s) .number ≡ 0 → answerOf s ≡ answerTo (planQuestions s)
-    to-plan r = chain ∙ then-asked (imageQuestions s) _ (real-image s) i ∙ then-asked (rowQuestions s) _ (real-rows s) r
+    module _ (r : answerTo (rowQuestions s) .number ≡ 0) where
+      past-rows : answerOf s ≡ answerTo (queueQuestions s ++ planQuestions s)
+      past-rows = chain ∙ then-asked (imageQuestions s) _ (real-image s) i ∙ then-asked (rowQuestions s) _ (real-rows s) r
+
+      pub stop-queues : (answerTo (queueQuestions s) .number ≡ 0 → ⊥) → answerOf s ≡ answerTo (queueQuestions s)
+      stop-queues h = past-rows ∙ stopped-first (queueQuestions s) _ h
+
+      pub to-plan : answerTo (queueQuestions s) .number ≡ 0 → answerOf s ≡ answerTo (planQuestions s)
+      to-plan q = past-rows ∙ then-asked (queueQuestions s) _ (real-queues s) q
 
   abbrev pub messageQuestions : List Question
   messageQuestions = streamQuestions s ++ (bufferQuestions s ++ chainQuestions s)
@@ -55,7 +70,7 @@ module _ (s : List ℕ) where
     pub to-chains : answerTo (bufferQuestions s) .number ≡ 0 → answerTo messageQuestions ≡ answerTo (chainQuestions s)
     to-chains b = then-asked (streamQuestions s) (bufferQuestions s ++ chainQuestions s) (real-streams s) e ∙ then-asked (bufferQuestions s) (chainQuestions s) (real-buffers s) b
 
-    -- what 1 to 24 have shown, for the chains
+    -- what 1 to 24 and 41 have shown, for the chains
     pub before-chains : Sound s → Passed (pieceQuestions s) 7 → answerTo (bufferQuestions s) .number ≡ 0 → BeforeChains s
     unfolding streamQuestions bufferQuestions
     before-chains h p b = record { sound = h; pieces = p; streams = passed-of (streamQuestions s) (real-streams s) e; buffers = passed-of (bufferQuestions s) (real-buffers s) b }

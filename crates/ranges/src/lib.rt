@@ -1,9 +1,9 @@
-// Question 6 (paper 01, "The questions"): the values of a row are in range.
+// Question 6 (paper 01, "The questions"): the values of a row are in range; and 40 (paper 02, request 13), a stream's queue is.
 ghost use mathlib.Core.Path.{_≡_};
 ghost use Prim.Native.Nat.{_<_};
 ghost use Rattle.plan.specs.declared.Table.the-variants.{Cores, Tasks, Links, Streams, Buffers};
 ghost use Rattle.plan.specs.Image.{rows};
-ghost use Rattle.plan.specs.Questions.{inRange};
+ghost use Rattle.plan.specs.Questions.{inRange, queueFits};
 ghost use Rattle.plan.specs.Held.{InImage};
 use plan::Table;
 use tables::buffer_at;
@@ -96,4 +96,12 @@ pub fn row_range(image: &[u8], table: Table, row: u32) -> bool
         Table::Buffers => buffer_range(image, row),
         Table::Chains => true,
     }
+}
+
+// 40: is a stream's queue one of the eight?
+pub fn queue_fits(image: &[u8], stream: u32) -> bool
+    requires { ⌜ InImage (now image) × (stream < rows (now image) Streams) ⌝ }
+    ensures { λ r. ⌜ r ≡ queueFits (now (image .entry)) stream ⌝ }
+{
+    stream_at(image, stream).queue <= 7
 }

@@ -1,8 +1,9 @@
--- The answers to a build of all tables and to a join are small as well.
+-- The answers to a build of all tables, to a gate list and to a join are small as well.
 use Prim.Native.Nat.{ℕ}
 use mathlib.Core.List.{List, _++_}
 use native.Mathlib.Omega.{arith}
 use Rattle.plan.specs.Questions.{whole, questions}
+use Rattle.gates.specs.Gates.{gateAnswer}
 use Rattle.joins.specs.Joins.{joinedImage, inputQuestions, joinAnswer}
 use Rattle.writing.specs.AllTables.{allAnswer}
 use Rattle.packing.proofs.Answers.{Narrow, Small, narrow-append, questions-narrow, narrow-answer}
@@ -10,6 +11,10 @@ use Rattle.packing.proofs.Answers.{Narrow, Small, narrow-append, questions-narr
 pub all-small : (s b : List ℕ) → Small (allAnswer s b)
 unfolding allAnswer whole
 all-small s b = narrow-answer _ (narrow-append (questions s) _ (questions-narrow s) (omega arith))
+
+pub gates-small : (s : List ℕ) (l : ℕ) (words : List ℕ) → Small (gateAnswer s l words)
+unfolding gateAnswer whole
+gates-small s l words = narrow-answer _ (narrow-append (questions s) _ (questions-narrow s) (omega arith))
 
 input-narrow : (a b : List ℕ) (s n : ℕ) → Narrow (inputQuestions a b s n)
 unfolding inputQuestions whole

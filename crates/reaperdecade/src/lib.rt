@@ -5,6 +5,7 @@ ghost use Prim.Native.Nat.{_+_, _*_, _^_};
 ghost use Rattle.plan.specs.Boundary.{checkNumber, buildNumber, buildBytes, startNumber, startBytes, stepNumber, stepBytes, stepAllNumber, stepAllBytes};
 ghost use Rattle.writing.specs.AllTables.{allNumber, allBytes};
 ghost use Rattle.arrivals.specs.Arrivals.{arrivalNumber, arrivalBytes};
+ghost use Rattle.gates.specs.Gates.{gateNumber, gateBytes};
 ghost use Rattle.texts.specs.Wording.{lineLength, lineBytes};
 ghost use Rattle.timerblock.specs.Blocks.{blockNumber, startedBytes, readingBytes, registerNumber, writingNumber, writtenBytes, interruptWord};
 ghost use lib.ListN as ListN;
@@ -138,6 +139,15 @@ pub extern "C" fn rd_arrivals(image: &[u8], frame: u32, ticks: &mut [u8]) -> u64
     ensures { λ r. ⌜ (r ≡ arrivalNumber (now (image .entry)) frame (now (ticks .entry))) × (now (ticks .exit) ≡ arrivalBytes (now (image .entry)) frame (now (ticks .entry))) ⌝ }
 {
     packed(arriving::store(image, frame, ticks))
+}
+
+// Writes a link's gate list: asks the check's questions, then 25 of the link and 42, and writes how many gates there are, then octet and interval of
+// each, as words. Later bytes, and all bytes after a refusal, stay as they are.
+#[no_mangle]
+pub extern "C" fn rd_gates(image: &[u8], link: u32, words: &mut [u8]) -> u64
+    ensures { λ r. ⌜ (r ≡ gateNumber (now (image .entry)) link (now (words .entry))) × (now (words .exit) ≡ gateBytes (now (image .entry)) link (now (words .entry))) ⌝ }
+{
+    packed(gating::store(image, link, words))
 }
 
 // Writes an answer in words, without a newline. Gives its length, or 0 where the bytes are fewer, and then no byte changes. Later bytes stay

@@ -1,8 +1,10 @@
-// Questions 5 and 6 (paper 01, "The questions") and 32 (paper 02, request 5): one loop over the rows of all tables.
+// Questions 5 and 6 (paper 01, "The questions") and 32 (paper 02, request 5): one loop over the rows of all tables. Question 40 (request 13): one
+// over the streams.
 ghost use mathlib.Core.Path.{_≡_};
 ghost use Prim.Native.Nat.{_<_};
 ghost use Rattle.plan.specs.Image.{tables, rows};
-ghost use Rattle.plan.specs.Questions.{eachTable, rowQuestions, answerTo};
+ghost use Rattle.plan.specs.declared.Table.the-variants.{Streams};
+ghost use Rattle.plan.specs.Questions.{queueFits, eachTable, rowQuestions, queueQuestions, answerTo};
 ghost use Rattle.plan.specs.Search.{firstNo};
 ghost use Rattle.plan.specs.Held.{InImage};
 ghost use Rattle.rows.specs.Tests.{rowTest};
@@ -12,6 +14,7 @@ use plan::Answer;
 use plan::Asked;
 use plan::Found;
 use plan::Table;
+use ranges::queue_fits;
 use ranges::row_range;
 use tables::TABLES;
 use tables::refusal;
@@ -81,4 +84,32 @@ pub fn ask(image: &[u8]) -> Answer
         return order;
     }
     ask_tables(image, 6)
+}
+
+// 40: the lowest stream whose queue is out of range.
+fn first_unqueued(image: &[u8]) -> Found
+    requires { ⌜ InImage (now image) ⌝ }
+    ensures { λ r. ⌜ r ≡ firstNo (rows (now (image .entry)) Streams) (queueFits (now (image .entry))) ⌝ }
+{
+    let streams = rows_of(image, Table::Streams);
+    let mut stream: u32 = 0;
+    while stream < streams {
+        if !queue_fits(image, stream) {
+            return Found::At(stream);
+        }
+        stream += 1;
+    }
+    Found::Nothing
+}
+
+// Question 40, over all streams.
+pub fn ask_queues(image: &[u8]) -> Answer
+    requires { ⌜ InImage (now image) ⌝ }
+    ensures { λ r. ⌜ r ≡ answerTo (queueQuestions (now (image .entry))) ⌝ }
+{
+    let table = Table::Streams;
+    match first_unqueued(image) {
+        Found::At(row) => refusal(Asked { number: 40, table }, row),
+        Found::Nothing => plan::accepted(),
+    }
 }

@@ -1,4 +1,4 @@
--- The questions 14 to 21 by their place in the list.
+-- The questions 14 to 21 and 41 by their place in the list.
 use Prim.Native.Nat.{ℕ, _≤_, _<_}
 use mathlib.Core.Path.{_≡_, refl}
 use mathlib.Core.Logic.{_≢_}
@@ -33,6 +33,10 @@ of-jobs s i l m =
 -- from 17 on, 14 to 16 are passed
 pub framed-at : (s times index : List ℕ) (i : ℕ) → Asking s times index i → 3 ≤ i → Framed s
 framed-at s times index i a l = record { sound = a .sound; passed = λ j k. a .passed j (omega arith) }
+
+-- 41 is the last
+pub not-last : (i : ℕ) → i < 9 → i ≢ 8 → i < 8
+not-last i l d = omega (arith, d)
 
 -- none of the first three
 pub from-jobs : (i : ℕ) → i ≢ 0 → i ≢ 1 → i ≢ 2 → 3 ≤ i

@@ -1,9 +1,9 @@
-// Questions 14 to 21 (paper 01, "The questions"): streams and frames.
+// Questions 14 to 21 (paper 01, "The questions") and 41 (paper 02, request 13): streams and frames.
 ghost use mathlib.Core.Path.{_≡_};
 ghost use Prim.Native.Nat.{_<_, _≤_};
 ghost use Rattle.plan.specs.declared.Table.the-variants.{Streams, Frames};
 ghost use Rattle.plan.specs.Image.{rows};
-ghost use Rattle.plan.specs.Held.{Sound, Listed, refusing};
+ghost use Rattle.plan.specs.Held.{Sound, Queued, Listed, refusing};
 ghost use Rattle.plan.specs.Questions.{eachJob, questionAt, streamQuestions, answerTo};
 ghost use Rattle.jobs.specs.Times.{Timed};
 ghost use Rattle.frames.specs.Index.{Indexed, JobOf};
@@ -43,12 +43,14 @@ const MESSAGE_WAITS: u32 = 6;
 
 const IN_TIME: u32 = 7;
 
+const STAY_CLEAR: u32 = 8;
+
 // How many there are.
-const QUESTIONS: u32 = 8;
+const QUESTIONS: u32 = 9;
 
 // The list: each question's number and table, in the order asked.
 fn question_at(place: u32) -> Asked
-    requires { ⌜ place < 8 ⌝ }
+    requires { ⌜ place < 9 ⌝ }
     ensures { λ r. ⌜ Listed streamQuestions place r ⌝ }
 {
     match place {
@@ -80,9 +82,13 @@ fn question_at(place: u32) -> Asked
             number: 20,
             table: Table::Streams,
         },
-        _ => Asked {
+        IN_TIME => Asked {
             number: 21,
             table: Table::Streams,
+        },
+        _ => Asked {
+            number: 41,
+            table: Table::Frames,
         },
     }
 }
@@ -155,13 +161,14 @@ fn first_no(image: &[u8], times: &[u32], index: &[u32], place: u32) -> Found
     match place {
         ONE_FRAME => first_unframed(image, index),
         FRAME_CLEAR => first_clash(image, Occupant::Frame),
+        STAY_CLEAR => stays::first_clash(image, times, index),
         _ => first_row(image, times, index, place),
     }
 }
 
-// Questions 14 to 21, in this order, with the frames found by place.
+// Questions 14 to 21 and 41, in this order, with the frames found by place.
 fn ask_all(image: &[u8], times: &[u32], index: &[u32]) -> Answer
-    requires { ⌜ Sound (now image) × (Timed (now image) (now times) × Indexed (now image) (now index)) ⌝ }
+    requires { ⌜ Sound (now image) × (Queued (now image) × (Timed (now image) (now times) × Indexed (now image) (now index))) ⌝ }
     ensures { λ r. ⌜ r ≡ answerTo (streamQuestions (now (image .entry))) ⌝ }
 {
     let mut place: u32 = 0;
@@ -177,9 +184,9 @@ fn ask_all(image: &[u8], times: &[u32], index: &[u32]) -> Answer
     plan::accepted()
 }
 
-// Questions 14 to 21. The times are those of the plan's jobs.
+// Questions 14 to 21 and 41. The times are those of the plan's jobs.
 pub fn ask(image: &[u8], times: &[u32]) -> Answer
-    requires { ⌜ Sound (now image) × Timed (now image) (now times) ⌝ }
+    requires { ⌜ Sound (now image) × (Queued (now image) × Timed (now image) (now times)) ⌝ }
     ensures { λ r. ⌜ r ≡ answerTo (streamQuestions (now (image .entry))) ⌝ }
 {
     let mut index = [0u32; frames::WORDS];

@@ -285,6 +285,7 @@ pub fn stream_at(image: &[u8], row: u32) -> Stream
         latency: field_of(image, Table::Streams, row, 2),
         hops: field_of(image, Table::Streams, row, 3),
         payload: field_of(image, Table::Streams, row, 4),
+        queue: field_of(image, Table::Streams, row, 5),
     }
 }
 

@@ -1,5 +1,5 @@
--- The latest end at a place, and the law of rows that rise by start: a row is clear of all lower rows at its place exactly if it begins
--- no sooner than the latest end before it there. Questions 8, 12 and 19 cite it.
+-- The latest end at a place, and the law of rows none of which begins after a later one ends: a row is clear of all lower rows at its place exactly if
+-- it begins no sooner than the latest end before it there. Questions 8, 12, 19 and 41 cite it.
 use Prim.Native.Nat.{ℕ, zero, suc, _+_, max, _<_, _≤_}
 use mathlib.Core.Path.{_≡_, refl, sym, ap, _∙_, subst}
 use mathlib.Core.Logic.{_⊎_, inl, inr, _≢_}
@@ -8,14 +8,18 @@ use mathlib.Core.List.{List}
 use native.Mathlib.Nat.{not-suc-le-zero, eq-or-lt-of-le, le-of-suc-le-suc}
 use native.Mathlib.Decide.{ℕ-discrete, decLt}
 use native.Mathlib.Omega.{arith}
-use lib.ListN.{getD, set}
-use lib.Dec.{eqb, leb}
-use Rattle.plan.specs.Search.{Interval, apart, clear}
+use native.Mathlib.Numerals.{add-one}
+use lib.ListN.{length, getD, set}
+use lib.Dec.{leb}
+use borrow.Author.Tests.{le-leb, lt-leb}
+use Rattle.plan.specs.declared.Found.the-variants.{At, Nothing}
+use Rattle.plan.specs.Search.{Interval, firstNo}
 use Rattle.plan.specs.Reading.{Apart}
 use Rattle.plan.proofs.Shows.{bool-eq}
-use Rattle.plan.proofs.Tests.{Reads, r-eq, r-le, r-clear₁}
+use Rattle.plan.proofs.Searching.{turn-yes, stops}
+use Rattle.plan.proofs.Tests.{Reads, r-le}
 use Rattle.tallies.specs.Tallies.{tally, latest, Kept}
-use Rattle.tallies.proofs.Tallying.{kept-as, tally-on, tally-none, tally-at, tally-other}
+use Rattle.tallies.proofs.Tallying.{kept-at, kept-as, tally-on, tally-none, tally-at, tally-other}
 
 module _ (place end : ℕ → ℕ) where
   latest-none : (p : ℕ) → latest place end 0 p ≡ 0
@@ -89,19 +93,41 @@ latest-on place end words many n h l = tally-on max 0 place end words many n h (
 same-test : {a b : Bool} {A B : Type 0} → Reads a A → Reads b B → (A → B) → (B → A) → a ≡ b
 same-test {a} {b} f g h k = bool-eq a b (λ e. g .1 (h (f .0 e))) (λ e. f .1 (k (g .0 e)))
 
--- the law
-module _ (place : ℕ → ℕ) (iv : ℕ → Interval) (r : ℕ) (up : (q : ℕ) → q < r → iv q .from ≤ iv r .from) (long : iv r .from < iv r .to) where
-  abbrev ends : ℕ → ℕ
-  ends q = iv q .to
+-- ---- the law
 
-  later : (q : ℕ) → q < r → Apart (iv q) (iv r) → iv q .to ≤ iv r .from
-  later q l (inl h) = h
-  later q l (inr h) = absurd (omega (arith, up q l))
+-- rows by place and interval, of which none begins after a later one ends, and a test of each row: is it clear of all lower rows of its place?
+module _ (place : ℕ → ℕ) (iv : ℕ → Interval) (ok : ℕ → Bool) (n many : ℕ)
+    (reads : (r : ℕ) → r < n → Reads (ok r) ((q : ℕ) → q < r → place q ≡ place r → Apart (iv q) (iv r)))
+    (near : (q r : ℕ) → q < r → r < n → iv q .from < iv r .to) (placed : (r : ℕ) → r < n → place r < many) where
+  abbrev pub ends-before : ℕ → ℕ → ℕ
+  ends-before = latest place (λ q. iv q .to)
 
-  pub clear-latest : clear (apart (λ a b. eqb (place a) (place b)) (λ _. 1) (λ x _. iv x)) r ≡ leb (latest place ends r (place r)) (iv r .from)
-  clear-latest =
+  later : (q r : ℕ) → q < r → r < n → Apart (iv q) (iv r) → iv q .to ≤ iv r .from
+  later q r l m (inl h) = h
+  later q r l m (inr h) = absurd (omega (arith, near q r l m))
+
+  -- it is, exactly if it begins no sooner than the latest end before it there
+  clear-latest : (r : ℕ) → r < n → ok r ≡ leb (ends-before r (place r)) (iv r .from)
+  clear-latest r m =
       same-test
-      (r-clear₁ iv (λ a b. r-eq (place a) (place b)) r)
-      (r-le (latest place ends r (place r)) (iv r .from))
-      (λ h. latest-by place ends r (place r) (iv r .from) (λ q l e. later q l (h q l e)))
-      (λ h q l e. inl (let b = ends-by place ends r (place r) q l e in omega arith))
+      (reads r m)
+      (r-le (ends-before r (place r)) (iv r .from))
+      (λ h. latest-by place (λ q. iv q .to) r (place r) (iv r .from) (λ q l e. later q r l m (h q l e)))
+      (λ h q l e. inl (let b = ends-by place (λ q. iv q .to) r (place r) q l e in omega arith))
+
+  -- a turn of a loop that keeps the latest ends in words, a word for each place
+  module _ (ends : List ℕ) (r : ℕ) (l : r < n) (k : Kept ends 0 many (ends-before r)) where
+    pub place-inside : place r < length ends
+    place-inside = let m = k .room in omega (arith, placed r l)
+
+    asked : ok r ≡ leb (getD ends (place r) 0) (iv r .from)
+    asked = clear-latest r l ∙ ap (λ (x : ℕ). leb x (iv r .from)) (sym (kept-at ends many (ends-before r) k (place r) (placed r l)))
+
+    pub clash : firstNo r ok ≡ Nothing → iv r .from < getD ends (place r) 0 → At r ≡ firstNo n ok
+    clash e d = sym (stops ok n r e l (asked ∙ lt-leb _ _ d))
+
+    pub clear-on : firstNo r ok ≡ Nothing → getD ends (place r) 0 ≤ iv r .from → firstNo (r + 1) ok ≡ Nothing
+    clear-on e d = rw add-one (turn-yes ok r e (asked ∙ le-leb _ _ d))
+
+    pub ends-on : Kept (set ends (place r) (max (getD ends (place r) 0) (iv r .to))) 0 many (ends-before (r + 1))
+    ends-on = latest-on place (λ q. iv q .to) ends many r k (placed r l)

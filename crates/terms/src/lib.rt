@@ -8,7 +8,7 @@ ghost use Rattle.plan.specs.Image.{rows, stream, link};
 ghost use Rattle.plan.specs.Held.{Sound};
 ghost use Rattle.plan.specs.Search.{any};
 ghost use Rattle.plan.specs.Questions.{coreOf, nodeOf, jobs, release, due, switchTicks, windowCore, windowEnd, keepsFrom, charge, pieceCore, pieceEnd};
-ghost use Rattle.plan.specs.Questions.{streamPeriod, orDeadline, limit, sendTicks, frameEnd, across};
+ghost use Rattle.plan.specs.Questions.{streamPeriod, orDeadline, limit, sendTicks, frameEnd, across, queueOf, overFrom};
 use plan::Table;
 use tables::core_at;
 use tables::cycle_ticks;
@@ -221,4 +221,27 @@ pub fn across_at(image: &[u8], frame: u32) -> u64
 {
     let link = frame_at(image, frame).link;
     frame_end(image, frame) + link_at(image, link).delay as u64 + precision_ticks(image) as u64
+}
+
+// A frame's queue: that of its stream.
+pub fn queue_of(image: &[u8], frame: u32) -> u32
+    requires { ⌜ Sound (now image) × (frame < rows (now image) Frames) ⌝ }
+    ensures { λ r. ⌜ r ≡ queueOf (now (image .entry)) frame ⌝ }
+{
+    let stream = frame_at(image, frame).stream;
+    stream_at(image, stream).queue
+}
+
+// The first tick at which some of a frame may be over its link, by any node's clock; never below 0.
+pub fn over_from(image: &[u8], frame: u32) -> u64
+    requires { ⌜ Sound (now image) × (frame < rows (now image) Frames) ⌝ }
+    ensures { λ r. ⌜ r ≡ overFrom (now (image .entry)) frame ⌝ }
+{
+    let f = frame_at(image, frame);
+    let over = f.start as u64 + link_at(image, f.link).lowest as u64;
+    let precision = precision_ticks(image) as u64;
+    if over < precision {
+        return 0;
+    }
+    over - precision
 }

@@ -100,6 +100,20 @@ pub unsafe extern "C" fn rd_arrivals(
     Peer.arrivals(image, frame, from_raw_parts_mut(ticks, ticks_len))
 }
 
+/// # Safety
+/// The pointers lead to so many bytes, apart from each other.
+#[no_mangle]
+pub unsafe extern "C" fn rd_gates(
+    image: *const u8,
+    image_len: usize,
+    link: u32,
+    words: *mut u8,
+    words_len: usize,
+) -> u64 {
+    let image = from_raw_parts(image, image_len);
+    Peer.gates(image, link, from_raw_parts_mut(words, words_len))
+}
+
 /// The fault that an environment variable names, if it is set.
 fn fault<F: Copy + std::fmt::Debug>(variable: &str, all: &[F]) -> Option<F> {
     let name = std::env::var(variable).ok()?;

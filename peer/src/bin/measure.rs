@@ -61,13 +61,15 @@ mod ops {
             }
         }
 
-        /// All that can be measured: of a refused image, the check and arrivals alone.
+        /// All that can be measured: of a refused image, the check, arrivals and gates alone.
         pub fn all(&self) -> Vec<Op<'_>> {
             let mut ops = vec![
                 op("ours", "check", || self.check(&Library)),
                 op("peer", "check", || self.check(&Peer)),
                 op("ours", "arrivals of frame 0", || self.arrivals(&Library)),
                 op("peer", "arrivals of frame 0", || self.arrivals(&Peer)),
+                op("ours", "gates of link 0", || self.gates(&Library)),
+                op("peer", "gates of link 0", || self.gates(&Peer)),
             ];
             if !self.tables.is_empty() {
                 ops.push(op("ours", "build of each lane", || self.build(&Library)));
@@ -87,6 +89,11 @@ mod ops {
 
         fn arrivals(&self, of: &dyn Boundary) {
             of.arrivals(&self.image, 0, &mut [0; 8]);
+        }
+
+        /// With words for the longest list that 512 frames can make.
+        fn gates(&self, of: &dyn Boundary) {
+            of.gates(&self.image, 0, &mut [0; 4 * (1 + 2 * 1_025)]);
         }
 
         /// Builds every lane with words that just suffice.

@@ -10,6 +10,8 @@ faults! {
     Make9NotAsked,
     /// All of the check is asked.
     MakeAsksAll,
+    /// 40 is asked too.
+    MakeAsks40,
     /// 11 is asked too.
     MakeAsks11,
     /// 13 is asked of tasks that have a piece.

@@ -1,11 +1,11 @@
 //! The images that drafts are made of, and those that none is made of.
 
-use crate::check::check;
+use crate::check::{check, examine_rows};
 use crate::generate::{self, SHAPES};
 use crate::harness::image_of;
 use crate::image::{row_of, rows_of, Piece, Plan};
 use crate::mutate::{mutant, mutate};
-use crate::questions::QUESTIONS;
+use crate::questions::{asked_before, QUESTIONS};
 use crate::rng::Rng;
 
 /// The image of a numbered draft, made of this and the seed alone.
@@ -15,7 +15,7 @@ pub fn image(seed: u64, number: u64) -> Vec<u8> {
 
 /// Of twelve images five are plans that meet just what a draft asks, two are
 /// accepted plans of each shape in turn, two are refused by each question of
-/// making in turn and one by each later question; the others are any.
+/// making in turn and one by each other question; the others are any.
 pub fn of_number(number: u64, rng: &mut Rng) -> Vec<u8> {
     let turn = number as usize / 12;
     let (_, shape) = SHAPES[turn % SHAPES.len()];
@@ -25,28 +25,39 @@ pub fn of_number(number: u64, rng: &mut Rng) -> Vec<u8> {
         0..=3 => loose(rng).encode(),
         4 => nearly_loose(rng).encode(),
         5 | 6 => shape(rng).encode(),
-        7 => refused_by(QUESTIONS[turn % MAKING], rng),
-        8 => refused_by(QUESTIONS[(turn + MAKING / 2) % MAKING], rng),
-        9 => refused_by(QUESTIONS[MAKING + turn % (QUESTIONS.len() - MAKING)], rng),
+        7 => refused_by(any_question(true, turn), rng),
+        8 => refused_by(any_question(true, turn + 5), rng),
+        9 => refused_later(any_question(false, turn), rng),
         10 => mutate(&shape(rng), rng),
         _ => image_of(number, rng).0,
     }
 }
 
-/// How many questions making asks of the image: those up to 10.
-const MAKING: usize = {
-    let mut count = 0;
-    while QUESTIONS[count] != 10 {
-        count += 1;
-    }
-    count + 1
-};
+/// In each turn another question that making asks of the image, those up to 10
+/// but for 40, or one that it does not.
+fn any_question(making: bool, turn: usize) -> u32 {
+    let up_to_10 = |number: u32| asked_before(number, 10) || number == 10;
+    let asks = |number: &u32| up_to_10(*number) && *number != 40;
+    let questions = QUESTIONS.iter().copied();
+    let questions: Vec<u32> = questions.filter(|number| asks(number) == making).collect();
+    questions[turn % questions.len()]
+}
 
 /// A mutant that a question is the first to refuse.
 fn refused_by(question: u32, rng: &mut Rng) -> Vec<u8> {
     loop {
         let image = mutant(rng);
         if check(&image).number == question {
+            return image;
+        }
+    }
+}
+
+/// A mutant that a question is the first to refuse, and that making takes.
+fn refused_later(question: u32, rng: &mut Rng) -> Vec<u8> {
+    loop {
+        let image = refused_by(question, rng);
+        if examine_rows(&image).is_ok() {
             return image;
         }
     }

@@ -393,6 +393,10 @@ impl Standin {
                 again(|plan| plan.tasks.iter_mut().for_each(|task| task[1] = u32::MAX))
             }
             (Some(MakeAsksAll), Ok(_)) => examine(image).map_err(|refusal| refusal.number),
+            (Some(MakeAsks40), Ok((plan, _))) => match examine(image) {
+                Err(refusal) if refusal.number == 40 => Err(40),
+                _ => Ok(plan.clone()),
+            },
             (Some(MakeAsks11), Ok((plan, _))) => match examine(image) {
                 Err(refusal) if refusal.number == 11 => Err(11),
                 _ => Ok(plan.clone()),

@@ -1,11 +1,12 @@
 //! A plan in the making.
 
 use std::cmp::Ordering;
+use std::collections::BTreeMap;
 
 use super::chains::lay_chains;
 use super::timeline::Timeline;
 use super::windows::lay_windows;
-use crate::image::{row_of, Link, Plan};
+use crate::image::{row_of, Frame, Link, Plan, QUEUES};
 use crate::rng::Rng;
 
 /// The longest latency a stream can ask for.
@@ -23,6 +24,16 @@ pub struct Draft {
     core_lines: Vec<Timeline>,
     link_lines: Vec<Timeline>,
     holds: Vec<Hold>,
+    stays: Vec<Stay>,
+}
+
+/// The stay of a frame in a queue of a link.
+#[derive(Clone, Copy, Debug)]
+struct Stay {
+    link: u32,
+    queue: u32,
+    from: u32,
+    to: u32,
 }
 
 /// A hold of a buffer: its number, node, start and end.
@@ -96,6 +107,7 @@ impl Draft {
             core_lines: Vec::new(),
             link_lines: Vec::new(),
             holds: Vec::new(),
+            stays: Vec::new(),
         }
     }
 
@@ -144,7 +156,11 @@ impl Draft {
         for (flow, edge) in transaction.flows.iter().zip(&edges) {
             let pairs = spans.iter().map(|jobs| (jobs[flow.from], jobs[flow.to]));
             match *edge {
-                Edge::Stream(row) => self.set_latency(row, pairs, rng)?,
+                Edge::Stream(row) => {
+                    let ends: Vec<u32> = spans.iter().map(|jobs| jobs[flow.from].1).collect();
+                    self.set_queue(row, &ends, rng)?;
+                    self.set_latency(row, pairs, rng)?;
+                }
                 Edge::Buffer(row) => self.set_number(row, pairs.collect(), rng)?,
             }
         }
@@ -389,6 +405,56 @@ impl Draft {
         Some(())
     }
 
+    /// Gives a stream a queue in which no other frame stays while one of its
+    /// does; its sender's jobs have these last ends.
+    fn set_queue(&mut self, stream: u32, ends: &[u32], rng: &mut Rng) -> Option<()> {
+        let mut queues: Vec<u32> = (0..QUEUES).collect();
+        if rng.chance(50) {
+            rng.shuffle(&mut queues);
+        }
+        let stays = stays_of(&self.plan, stream, ends);
+        let is_free = |queue: &u32| {
+            let mut own = stays.iter();
+            own.all(|stay| {
+                self.is_apart(&Stay {
+                    queue: *queue,
+                    ..*stay
+                })
+            })
+        };
+        queues.retain(is_free);
+        let touching = queues.iter().copied().find(|queue| {
+            let mut own = stays.iter();
+            own.any(|stay| {
+                self.touches(&Stay {
+                    queue: *queue,
+                    ..*stay
+                })
+            })
+        });
+        let queue = touching
+            .filter(|_| rng.chance(60))
+            .or(queues.first().copied())?;
+        let in_queue = |stay: Stay| Stay { queue, ..stay };
+        self.stays.extend(stays.into_iter().map(in_queue));
+        self.plan.streams[stream as usize][5] = queue;
+        Some(())
+    }
+
+    fn is_apart(&self, wanted: &Stay) -> bool {
+        self.stays.iter().all(|stay| {
+            let one_queue = stay.link == wanted.link && stay.queue == wanted.queue;
+            !one_queue || stay.to <= wanted.from || wanted.to <= stay.from
+        })
+    }
+
+    fn touches(&self, wanted: &Stay) -> bool {
+        self.stays.iter().any(|stay| {
+            let one_queue = stay.link == wanted.link && stay.queue == wanted.queue;
+            one_queue && (stay.to == wanted.from || wanted.to == stay.from)
+        })
+    }
+
     /// Gives a buffer a number, one in use already where its holds allow.
     fn set_number(&mut self, row: u32, pairs: Vec<(Span, Span)>, rng: &mut Rng) -> Option<()> {
         let node = self.plan.node_of_task(self.plan.buffers[row as usize][1]);
@@ -436,6 +502,29 @@ impl Draft {
         self.plan.chains = lay_chains(&self.plan, chains, rng)?;
         Some(shuffled(self.plan, rng))
     }
+}
+
+/// The stays of a stream's frames, still without a queue. Its sender's jobs
+/// have these last ends.
+fn stays_of(plan: &Plan, stream: u32, ends: &[u32]) -> Vec<Stay> {
+    let own = plan.frames.iter().filter(|frame| frame[0] == stream);
+    let starts: BTreeMap<(u32, u32), (u32, u32)> = own
+        .clone()
+        .map(|&[_, k, hop, link, start, ..]| ((k, hop), (link, start)))
+        .collect();
+    let stay = |&[_, k, hop, link, start, ..]: &Frame| Stay {
+        link,
+        queue: 0,
+        from: match hop.checked_sub(1) {
+            None => ends[k as usize],
+            Some(before) => {
+                let (link, start) = starts[&(k, before)];
+                (start + plan.links[link as usize][4]).saturating_sub(plan.precision)
+            }
+        },
+        to: start + plan.frame_ticks(stream, link),
+    };
+    own.map(stay).collect()
 }
 
 /// The tasks of a transaction from which flows lead to one of them.

@@ -1,7 +1,7 @@
 //! Plans whose lanes, or one of whose lanes, have as many entries as can be.
 
 use super::draft::{any_link, shuffled};
-use crate::image::{row_of, Plan, ROW_BOUNDS, WINDOW};
+use crate::image::{row_of, Plan, QUEUES, ROW_BOUNDS, WINDOW};
 use crate::rng::Rng;
 
 /// Cores of the senders' node and of the receivers'.
@@ -75,11 +75,15 @@ fn add_messages(plan: &mut Plan, from: u32, rng: &mut Rng) {
     for stream in 0..64 {
         let [sender, receiver] = [0, CORES].map(|first| first + rng.within(0..=CORES - 1));
         let payload = rng.within(46..=1_500);
-        let words = [sender, receiver, CYCLE, 8, payload];
+        let words = [sender, receiver, CYCLE, 8, payload, stream % QUEUES];
         plan.streams.push(row_of(words));
-        for hop in 0..8 {
-            let first = hop % NODES;
-            let link = first + NODES * rng.within(0..=(63 - first) / NODES);
+    }
+    for (queue, hop) in (0..QUEUES).flat_map(|queue| (0..8).map(move |hop| (queue, hop))) {
+        // All streams wait at once, so that those of one queue go over links
+        // of their own.
+        let mut links: Vec<u32> = (hop % NODES..64).step_by(NODES as usize).collect();
+        rng.shuffle(&mut links);
+        for (stream, link) in (queue..64).step_by(QUEUES as usize).zip(links) {
             let start = from + 20_000 * hop + 300 * stream + rng.within(0..=99);
             plan.frames.push(row_of([stream, 0, hop, link, start]));
         }

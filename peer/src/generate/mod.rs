@@ -15,8 +15,8 @@ mod windows;
 
 pub use entries::{longest_lane, most_entries};
 pub use shapes::{
-    accepted, bare, busy_core, diamond, full, kept_core, large, medium, rich, shared_buffer, small,
-    small_rich, tiny, unit_periods,
+    accepted, bare, busy_core, busy_links, diamond, full, kept_core, large, medium, rich,
+    shared_buffer, small, small_rich, tiny, unit_periods,
 };
 pub use windows::cut_window;
 
@@ -27,7 +27,7 @@ use crate::rng::Rng;
 pub type Shape = fn(&mut Rng) -> Plan;
 
 /// Every shape by its name.
-pub const SHAPES: [(&str, Shape); 14] = [
+pub const SHAPES: [(&str, Shape); 15] = [
     ("bare", bare),
     ("units", unit_periods),
     ("tiny", tiny),
@@ -38,6 +38,7 @@ pub const SHAPES: [(&str, Shape); 14] = [
     ("large", large),
     ("busy", busy_core),
     ("kept", kept_core),
+    ("links", busy_links),
     ("diamond", diamond),
     ("entries", most_entries),
     ("lane", longest_lane),

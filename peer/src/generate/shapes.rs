@@ -76,7 +76,8 @@ pub fn accepted(rng: &mut Rng) -> Plan {
         4..=6 => unit_periods(rng),
         7 => diamond(rng),
         8..=13 => kept_core(rng),
-        14..=41 => small(rng),
+        14..=18 => busy_links(rng),
+        19..=41 => small(rng),
         42..=69 => medium(rng),
         70..=95 => rich(rng),
         _ => large(rng),
@@ -713,6 +714,76 @@ fn next_vcpu(draft: &Draft, vcpu: u32, near: Option<bool>, rng: &mut Rng) -> u32
     let vcpus: Vec<u32> = (0..draft.plan.vcpus.len() as u32).collect();
     let serving: Vec<u32> = vcpus.iter().copied().filter(serves).collect();
     rng.pick_any(&serving).unwrap_or(rng.pick(&vcpus))
+}
+
+/// Few links with many messages over one to three hops, often several of one
+/// task, for cycles of at most 60 ticks. So frames wait behind each other, in
+/// few queues or in many, and some arrive, as far as clocks can tell, before
+/// the cycle begins.
+pub fn busy_links(rng: &mut Rng) -> Plan {
+    loop {
+        let mut draft = three_nodes(rng);
+        for _ in 0..rng.within(3..=9) {
+            let messages = messages(&draft, rng);
+            draft.add(&messages, rng);
+        }
+        for _ in 0..rng.below(3) {
+            let exchange = exchange(&draft, rng);
+            draft.add(&exchange, rng);
+        }
+        if draft.plan.streams.len() < 2 {
+            continue;
+        }
+        if let Some(plan) = draft.finish(rng) {
+            return plan;
+        }
+    }
+}
+
+/// Three nodes in a ring of links, sometimes with a link more.
+fn three_nodes(rng: &mut Rng) -> Draft {
+    let cycle = rng.pick(&[30, 36, 40, 48, 60, 60]);
+    let mut draft = Draft::new(cycle, rng.pick(&[0, 1, 2, 3, 4, 5]));
+    let [d, v] = [0; 2].map(|_| rng.pick(&[0, 0, 1]));
+    for node in [0, 1, 2, 0, 1, 2] {
+        draft.add_vcpu(draft.plan.cores.len() as u32);
+        draft.add_core(node, d, v);
+    }
+    let mut ends = vec![[0, 1], [1, 2], [2, 0]];
+    ends.extend(rng.pick(&[None, None, Some([0, 1]), Some([1, 0])]));
+    for ends in ends {
+        let rate = rng.pick(&[352, 704, 10_000]);
+        draft.add_link(ends, rng.within(0..=3), rate, rng);
+    }
+    draft
+}
+
+/// A task, sometimes a long one, and one on another node that reads one to three
+/// messages of it.
+fn messages(draft: &Draft, rng: &mut Rng) -> Transaction {
+    let sender = rng.below(draft.plan.vcpus.len()) as u32;
+    let receiver = vcpu_beside(draft, sender, false, rng);
+    let [from, to] = [sender, receiver].map(|vcpu| draft.node_of_vcpu(vcpu));
+    let leads = |hops: &u32| draft.walk(from, to, *hops, rng).is_some();
+    let lengths: Vec<u32> = [1, 2, 2, 3].into_iter().filter(leads).collect();
+    let mut flows = Vec::new();
+    for _ in 0..rng.pick(&[1, 1, 1, 2, 3]) {
+        flows.extend(rng.pick_any(&lengths).map(|hops| Flow {
+            hops,
+            ..quick_flow(0, 1)
+        }));
+    }
+    let period = draft.plan.cycle / rng.pick(&[1, 2]);
+    let long = rng.within(period / 4..=2 * period / 3);
+    let sender = NewTask {
+        budget: rng.pick(&[1, 1, long]),
+        ..quick_task(sender)
+    };
+    Transaction {
+        period,
+        tasks: vec![sender, quick_task(receiver)],
+        flows,
+    }
 }
 
 /// As many messages as there may be, most of them in few long rows of tasks

@@ -39,6 +39,10 @@ impl Boundary for Standin {
         }
     }
 
+    fn gates(&self, image: &[u8], link: u32, words: &mut [u8]) -> u64 {
+        Peer.gates(image, link, words)
+    }
+
     fn start(&self, cycle: u64, first: u32, state: &mut [u8]) -> u32 {
         Peer.start(cycle, first, state)
     }

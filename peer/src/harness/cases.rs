@@ -1,11 +1,13 @@
 //! The cases: an image each, with what is called on it.
 
 use super::lent::Lent;
+use super::met::Listed;
 use super::pair::{Difference, Pair};
 use crate::boundary::{write_state, write_words, STATE};
 use crate::dispatch::{start, State};
+use crate::gates::gate_lists;
 use crate::generate;
-use crate::image::{point_back, Trailer, FRAME, TRAILER, WORD};
+use crate::image::{point_back, Frame, Plan, Trailer, CORE, FRAME, LINK, TRAILER, WORD};
 use crate::mutate::{aim, mutant, mutate};
 use crate::rng::Rng;
 use crate::table::tables;
@@ -34,10 +36,12 @@ pub fn run(case: u64, large: bool, pair: &mut Pair, rng: &mut Rng) -> Result<Out
         let tables = tables(&image).expect("our own check accepts");
         build_all(pair, lent.part(), &tables, rng)?;
         ask_arrivals(pair, lent.part(), rng)?;
+        ask_gates(pair, lent.part(), rng)?;
         Run::new(pair, &tables, rng)?.run(pair, rng)?;
     } else {
         build_refused(pair, lent.part(), rng)?;
         ask_arrivals_refused(pair, lent.part(), rng)?;
+        ask_gates_refused(pair, lent.part(), rng)?;
     }
     if lent != before {
         return Err(Difference::of_image(&image, lent.part()));
@@ -91,10 +95,10 @@ fn no_path(rng: &mut Rng) -> Vec<u8> {
 
 /// Images as `image_of` has them, without the largest.
 fn small_image(rng: &mut Rng) -> Image {
-    let plan = if rng.chance(30) {
-        generate::small(rng)
-    } else {
-        generate::small_rich(rng)
+    let plan = match rng.below(100) {
+        0..=29 => generate::small(rng),
+        30..=49 => generate::busy_links(rng),
+        _ => generate::small_rich(rng),
     };
     match rng.below(10) {
         0..=2 => (plan.encode(), false),
@@ -181,6 +185,82 @@ fn ask_arrivals_refused(pair: &mut Pair, image: &[u8], rng: &mut Rng) -> Called 
         pair.arrivals(image, frame, &mut Lent::noise(length, rng))?;
     }
     Ok(())
+}
+
+/// So many links are asked for in one plan.
+const MOST_LINKS: usize = 12;
+
+/// Asks for the gate lists of an accepted image, with bytes for too few words,
+/// by a byte and by a word too, just enough and too many; then of links that
+/// there are not: next to the last, where there are lanes, and far away, also
+/// where the lower bits are those of one that is.
+fn ask_gates(pair: &mut Pair, image: &[u8], rng: &mut Rng) -> Called {
+    let lists = gate_lists(image).expect("our own check accepts");
+    let mut links: Vec<u32> = (0..lists.len() as u32).collect();
+    rng.shuffle(&mut links);
+    for &link in links.iter().take(MOST_LINKS) {
+        let needed = lists[link as usize].len() * WORD;
+        let mut lengths = around(lists[link as usize].len(), rng).to_vec();
+        lengths.extend([needed - 1, needed - WORD, needed, needed + 2 * WORD, 0]);
+        for length in lengths {
+            gates_into(pair, image, Some(&lists), link, length, rng)?;
+        }
+    }
+    let (cores, links) = cores_and_links(image);
+    let any = rng.within(0..=links);
+    let far = any | 1 << rng.within(16..=31);
+    let near = [links, links + 1, links + cores - 1, links + cores];
+    for link in near.into_iter().chain([far, u32::MAX, rng.word()]) {
+        let length = rng.pick(&[0, 1, 4, 11, 12, 400]);
+        gates_into(pair, image, Some(&lists), link, length, rng)?;
+    }
+    Ok(())
+}
+
+fn ask_gates_refused(pair: &mut Pair, image: &[u8], rng: &mut Rng) -> Called {
+    for link in [0, rng.within(0..=70), rng.word()] {
+        let length = rng.below(400);
+        gates_into(pair, image, None, link, length, rng)?;
+    }
+    Ok(())
+}
+
+fn cores_and_links(image: &[u8]) -> (u32, u32) {
+    let tables = Trailer::read(image).tables;
+    (tables[CORE as usize - 1].1, tables[LINK as usize - 1].1)
+}
+
+/// Asks for a gate list with so many bytes, where the image is accepted with
+/// its lists, and counts what was met.
+fn gates_into(
+    pair: &mut Pair,
+    image: &[u8],
+    lists: Option<&[Vec<u32>]>,
+    link: u32,
+    length: usize,
+    rng: &mut Rng,
+) -> Called {
+    let answer = pair.gates(image, link, &mut Lent::noise(length, rng))?;
+    let list = lists.and_then(|lists| lists.get(link as usize));
+    pair.met.count(&Listed {
+        number: (answer & 0xFFFF) as u32,
+        link,
+        counts: lists.map(|_| cores_and_links(image).into()),
+        lent: length,
+        list: list.map(Vec::as_slice),
+        touch: list.is_some() && frames_touch(&Plan::decode(image), link),
+    });
+    Ok(())
+}
+
+/// Whether a frame of a link starts where one of its queue ends.
+fn frames_touch(plan: &Plan, link: u32) -> bool {
+    let queue = |frame: &Frame| plan.streams[frame[0] as usize][5];
+    let on_link = || plan.frames.iter().filter(|frame| frame[3] == link);
+    on_link().any(|frame| {
+        let end = frame[4] + plan.frame_ticks(frame[0], link);
+        on_link().any(|other| other[4] == end && queue(other) == queue(frame))
+    })
 }
 
 /// All lanes of an accepted plan with their tables in one row of words.

@@ -5,6 +5,7 @@
 
 mod cases;
 mod lent;
+mod met;
 mod pair;
 
 use crate::boundary::Boundary;
@@ -13,6 +14,7 @@ use crate::rng::Rng;
 
 pub use cases::image_of;
 pub use lent::Lent;
+pub use met::Met;
 pub use pair::{Calls, Difference, Pair};
 
 /// What to run.
@@ -37,6 +39,8 @@ pub struct Summary {
     /// The same of all other images.
     pub others: Histogram,
     pub calls: Calls,
+    /// What the calls for gate lists met.
+    pub gates: Met,
 }
 
 /// Runs all cases, up to the first difference.
@@ -62,5 +66,6 @@ pub fn run(
         images.count(outcome.number);
     }
     summary.calls = pair.calls;
+    summary.gates = pair.met;
     Ok(summary)
 }

@@ -3,6 +3,7 @@
 use std::fmt;
 
 use super::lent::Lent;
+use super::met::Met;
 use crate::answer::Answer;
 use crate::boundary::Boundary;
 use crate::hex::digits;
@@ -16,11 +17,12 @@ pub struct Calls {
     pub step: u64,
     pub step_all: u64,
     pub arrivals: u64,
+    pub gates: u64,
 }
 
 impl Calls {
     pub fn total(&self) -> u64 {
-        let on_images = self.check + self.build + self.arrivals;
+        let on_images = self.check + self.build + self.arrivals + self.gates;
         on_images + self.start + self.step + self.step_all
     }
 }
@@ -64,6 +66,7 @@ pub struct Pair<'a> {
     ours: &'a dyn Boundary,
     theirs: &'a dyn Boundary,
     pub calls: Calls,
+    pub met: Met,
 }
 
 impl<'a> Pair<'a> {
@@ -72,6 +75,7 @@ impl<'a> Pair<'a> {
             ours,
             theirs,
             calls: Calls::default(),
+            met: Met::default(),
         }
     }
 
@@ -112,6 +116,12 @@ impl<'a> Pair<'a> {
         self.call_on(image, ticks, what, |of, ticks| {
             of.arrivals(image, frame, ticks)
         })
+    }
+
+    pub fn gates(&mut self, image: &[u8], link: u32, words: &mut Lent) -> Result<u64, Difference> {
+        self.calls.gates += 1;
+        let what = format_args!("gates of link {link}");
+        self.call_on(image, words, what, |of, words| of.gates(image, link, words))
     }
 
     /// A call on an image that writes to lent bytes, which then hold what both

@@ -2,7 +2,7 @@
 
 use crate::check::check;
 use crate::generate::cut_window;
-use crate::image::{width, Plan, CORE, LINK, VCPU, WINDOW};
+use crate::image::{width, Plan, CORE, LINK, QUEUES, VCPU, WINDOW};
 use crate::rng::Rng;
 
 /// Changes a plan, where it has rows for that; it may be refused then.
@@ -10,7 +10,7 @@ pub type Change = fn(&mut Plan, &Plan, &mut Rng) -> Option<()>;
 
 /// Changes of rows that a join compares, renumbers or appends; some are made
 /// more often.
-pub const ROWS: [Change; 14] = [
+pub const ROWS: [Change; 15] = [
     piece,
     piece,
     piece,
@@ -19,6 +19,7 @@ pub const ROWS: [Change; 14] = [
     frame,
     carrier,
     stream,
+    queue,
     equal_streams,
     number,
     number,
@@ -28,15 +29,25 @@ pub const ROWS: [Change; 14] = [
 ];
 
 /// Those of them that are about messages and chains.
-pub const MESSAGES: [Change; 7] = [frame, carrier, stream, equal_streams, number, ends, chain];
+pub const MESSAGES: [Change; 8] = [
+    frame,
+    carrier,
+    stream,
+    queue,
+    equal_streams,
+    number,
+    ends,
+    chain,
+];
 
 /// The questions that can refuse a result, and changes that lead to it.
-pub const CLASHES: [(u32, &[Change]); 5] = [
+pub const CLASHES: [(u32, &[Change]); 6] = [
     (12, &[piece]),
     (13, &[piece, lengths]),
     (16, &[frame, carrier]),
     (19, &[frame, stream]),
     (24, &[number, ends]),
+    (41, &[queue, frame]),
 ];
 
 /// Makes a change that leaves the plan accepted, in order and not as it was; or
@@ -129,6 +140,17 @@ fn stream(plan: &mut Plan, _: &Plan, rng: &mut Rng) -> Option<()> {
     let row = any_row(&mut plan.streams, rng)?;
     let column = rng.pick(&[2, 4]);
     row[column] = near(row[column], rng);
+    Some(())
+}
+
+/// Puts a stream into another queue, often one of the other plan's.
+fn queue(plan: &mut Plan, other: &Plan, rng: &mut Rng) -> Option<()> {
+    let row = any_row(&mut plan.streams, rng)?;
+    let queues: Vec<u32> = other.streams.iter().map(|stream| stream[5]).collect();
+    row[5] = match rng.pick_any(&queues) {
+        Some(queue) if rng.chance(70) => queue,
+        _ => rng.within(0..=QUEUES - 1),
+    };
     Some(())
 }
 

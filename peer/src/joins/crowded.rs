@@ -1,7 +1,9 @@
 //! Plans with many messages between few tasks, and with as many rows in one
 //! table as wanted, also with more than it may have.
 
-use crate::image::{row_of, rows_of, Plan, BUFFER, CHAIN, FRAME, PIECE, ROW_BOUNDS, STREAM, TASK};
+use crate::image::{
+    row_of, rows_of, Plan, BUFFER, CHAIN, FRAME, PIECE, QUEUES, ROW_BOUNDS, STREAM, TASK,
+};
 use crate::order::{FRAME_START, PIECE_START};
 use crate::rng::Rng;
 
@@ -77,7 +79,19 @@ impl Rows {
             BUFFER => rows.buffers = wanted,
             _ => rows.chains = wanted,
         }
+        rows.add_groups();
         rows
+    }
+
+    /// As many groups as it takes for no group to have more streams than there
+    /// are queues: all of a group wait at once.
+    fn add_groups(&mut self) {
+        let least = self.hops.len().div_ceil(QUEUES as usize);
+        while self.groups < least {
+            self.groups += 1;
+            self.tasks += GROUP;
+            self.pieces.extend([1; GROUP]);
+        }
     }
 }
 
@@ -171,8 +185,9 @@ impl Crowd {
         let read = self.now;
         self.now = sent;
         let receiver = first + RECEIVER as u32;
-        for &hops in streams {
-            self.add_stream([first, receiver], hops, rng);
+        let queue = rng.within(0..=QUEUES - 1);
+        for (&hops, queue) in streams.iter().zip(queue..) {
+            self.add_stream([first, receiver], hops, queue % QUEUES, rng);
         }
         self.now = self.now.max(read);
         self.add_task(2, pieces[RECEIVER], rng);
@@ -182,10 +197,10 @@ impl Crowd {
     }
 
     /// Adds a stream over so many hops, of a latency of its own.
-    fn add_stream(&mut self, [sender, receiver]: [u32; 2], hops: usize, rng: &mut Rng) {
+    fn add_stream(&mut self, [sender, receiver]: [u32; 2], hops: usize, queue: u32, rng: &mut Rng) {
         let stream = self.plan.streams.len() as u32;
         let latency = 1_000_000 - stream;
-        let words = [sender, receiver, latency, hops as u32, 46];
+        let words = [sender, receiver, latency, hops as u32, 46, queue];
         self.plan.streams.push(row_of(words));
         for hop in 0..hops {
             let link = match (hops % 2, hop) {

@@ -8,6 +8,7 @@ faults! {
     /// As a draft's image is, up to 10.
     FirstAskedTo10,
     SecondAskedTo10,
+    First40NotAsked,
     SecondNamedByNumberAlone,
     Asks35BeforeSecond,
     Asks36BeforeSecond,
@@ -131,6 +132,9 @@ faults! {
     StreamLatencyNotCompared,
     StreamHopsNotCompared,
     StreamPayloadNotCompared,
+    StreamQueueNotCompared,
+    /// Streams of the second are taken into queue 0.
+    QueuesLost,
     FrameLinkNotCompared,
     FrameStartNotCompared,
     BufferNumberNotCompared,
@@ -169,6 +173,7 @@ faults! {
     // The result
     ResultNotAsked,
     ResultAskedTo10,
+    Result41NotAsked,
     ResultAskedBeforeItsOrder,
     ResultNamedByNumberAlone,
     ResultRefusedAs37,

@@ -22,7 +22,7 @@ pub enum Stage {
 
 /// The numbers that a result of accepted plans can have: all other questions
 /// are about rows of one plan, or about what both have.
-pub const RESULTS: [u32; 6] = [0, 12, 13, 16, 19, 24];
+pub const RESULTS: [u32; 7] = [0, 12, 13, 16, 19, 24, 41];
 
 /// A call that both answered alike.
 pub struct Facts<'a> {

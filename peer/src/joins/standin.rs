@@ -161,6 +161,12 @@ impl Attempt<'_> {
             false => examine(image).map(drop),
         };
         match asked {
+            Asked::First if self.is(First40NotAsked) => {
+                let refusal = input(self.images[0], FirstAskedTo10).err();
+                refusal
+                    .filter(|refusal| refusal.number != 40)
+                    .map_or(Ok(()), Err)
+            }
             Asked::First => input(self.images[0], FirstAskedTo10),
             Asked::Second if self.is(SecondNamedByNumberAlone) => {
                 input(self.images[1], SecondAskedTo10)
@@ -538,6 +544,9 @@ impl Attempt<'_> {
 
     fn renumbered(&self, table: u32, row: &Row, columns: &[usize], streams: &[u32]) -> Row {
         let mut new = row.clone();
+        if table == STREAM && self.is(QueuesLost) {
+            new[5] = 0;
+        }
         for &column in columns {
             new[column] = match table {
                 FRAME => streams[row[column] as usize],
@@ -596,6 +605,7 @@ impl Attempt<'_> {
         match self.fault {
             Some(ResultNotAsked) => Answer::ACCEPTED,
             Some(ResultAskedTo10) => examine_rows(image).err().unwrap_or(Answer::ACCEPTED),
+            Some(Result41NotAsked) if check(image).number == 41 => Answer::ACCEPTED,
             Some(ResultAskedBeforeItsOrder) => check(&write(&self.unordered())),
             _ => check(image),
         }
@@ -727,12 +737,13 @@ const UNRENUMBERED: [(u32, Fault); 5] = [
     (CHAIN, ChainsLookedForUnrenumbered),
 ];
 
-const NOT_COMPARED: [(u32, usize, Fault); 11] = [
+const NOT_COMPARED: [(u32, usize, Fault); 12] = [
     (PIECE, 2, PieceStartNotCompared),
     (PIECE, 3, PieceLengthNotCompared),
     (STREAM, 2, StreamLatencyNotCompared),
     (STREAM, 3, StreamHopsNotCompared),
     (STREAM, 4, StreamPayloadNotCompared),
+    (STREAM, 5, StreamQueueNotCompared),
     (FRAME, 3, FrameLinkNotCompared),
     (FRAME, 4, FrameStartNotCompared),
     (BUFFER, 0, BufferNumberNotCompared),

@@ -2,7 +2,7 @@
 
 use crate::image::{
     point_back, row_of, set_word, width, word_at, Plan, Trailer, CHAIN, LINK, LONGEST, ROW_BOUNDS,
-    TABLES, TRAILER, WIDTHS, WORD,
+    STREAM, TABLES, TRAILER, WIDTHS, WORD,
 };
 use crate::rng::Rng;
 
@@ -122,7 +122,10 @@ fn layout(mut plan: Plan, rng: &mut Rng) -> Vec<u8> {
         }
         3 => widened(plan, rng),
         4 => many_tables(plan.encode(), rng),
-        5 => old_link_rows(plan.encode(), rng.pick(&[3, 4, 4])),
+        5 => {
+            let (table, words) = rng.pick(&[(LINK, 3), (LINK, 4), (STREAM, 5), (STREAM, 5)]);
+            old_rows(plan.encode(), table, words)
+        }
         _ => one_count(plan.encode(), rng),
     }
 }
@@ -177,17 +180,17 @@ fn many_tables(mut image: Vec<u8>, rng: &mut Rng) -> Vec<u8> {
     image
 }
 
-/// Link rows of only so many words, as they once were, and all else in its
-/// place.
-fn old_link_rows(mut image: Vec<u8>, words: usize) -> Vec<u8> {
-    let (begin, rows) = Trailer::read(&image).tables[LINK as usize - 1];
-    let gone = (width(LINK) - words) * WORD;
+/// Rows of a table of only so many words, as they once were, and all else in
+/// its place.
+fn old_rows(mut image: Vec<u8>, table: u32, words: usize) -> Vec<u8> {
+    let (begin, rows) = Trailer::read(&image).tables[table as usize - 1];
+    let gone = (width(table) - words) * WORD;
     for row in (0..rows as usize).rev() {
-        let end = begin as usize + (row + 1) * width(LINK) * WORD;
+        let end = begin as usize + (row + 1) * width(table) * WORD;
         image.drain(end - gone..end);
     }
-    for table in LINK as usize..TABLES {
-        let at = offset_byte(&image, table);
+    for later in table as usize..TABLES {
+        let at = offset_byte(&image, later);
         let offset = word_at(&image, at) - rows * gone as u32;
         set_word(&mut image, at, offset);
     }

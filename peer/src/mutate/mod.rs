@@ -10,22 +10,21 @@ mod charges;
 mod cores;
 mod deadlines;
 mod order;
+mod stays;
 mod streams;
 
 use crate::generate;
-use crate::image::{row_of, Piece, Plan, Window, ROW_BOUNDS, WINDOW};
+use crate::image::{row_of, Piece, Plan, Window, QUEUES, ROW_BOUNDS, WINDOW};
 use crate::questions::QUESTIONS;
 use crate::rng::Rng;
 
 /// An image made of an accepted plan by one change, sometimes by two.
 pub fn mutate(plan: &Plan, rng: &mut Rng) -> Vec<u8> {
-    let mut plan = plan.clone();
-    let first = match rng.below(QUESTIONS.len() + 3) {
-        0 => Change::Harmless,
-        turn @ 1..=3 => Change::Bytes(QUESTIONS[turn - 1]),
-        turn if turn <= QUESTIONS.len() => Change::Rows(any_of_rows(rng)),
-        _ => Change::Scattered,
-    };
+    let first = Change::any(rng);
+    changed(plan.clone(), first, rng)
+}
+
+fn changed(mut plan: Plan, first: Change, rng: &mut Rng) -> Vec<u8> {
     if let Change::Rows(question) = first {
         aim_or_near(question, &mut plan, rng);
     }
@@ -55,19 +54,33 @@ enum Change {
     Scattered,
 }
 
+impl Change {
+    fn any(rng: &mut Rng) -> Change {
+        match rng.below(QUESTIONS.len() + 3) {
+            0 => Change::Harmless,
+            turn @ 1..=3 => Change::Bytes(QUESTIONS[turn - 1]),
+            turn if turn <= QUESTIONS.len() => Change::Rows(any_of_rows(rng)),
+            _ => Change::Scattered,
+        }
+    }
+}
+
 /// Any of the questions that are asked of rows, or of H and P.
 fn any_of_rows(rng: &mut Rng) -> u32 {
     rng.pick(&QUESTIONS[3..])
 }
 
-/// An image made of a plan of its own, mostly one with rows in every table.
+/// An image made of a plan of its own, mostly one with rows in every table, or
+/// with frames that wait behind each other where these are to be changed.
 pub fn mutant(rng: &mut Rng) -> Vec<u8> {
-    let plan = if rng.chance(75) {
-        generate::rich(rng)
-    } else {
-        generate::accepted(rng)
+    let first = Change::any(rng);
+    let plan = match rng.below(100) {
+        0..=59 if first == Change::Rows(41) => generate::busy_links(rng),
+        0..=4 => generate::busy_links(rng),
+        5..=74 => generate::rich(rng),
+        _ => generate::accepted(rng),
     };
-    mutate(&plan, rng)
+    changed(plan, first, rng)
 }
 
 /// Aims at a question, or at others where the plan has no rows for it.
@@ -123,13 +136,15 @@ fn change(question: u32, plan: &mut Plan, rng: &mut Rng) -> Option<()> {
         30 => chains::path(plan, rng),
         31 => chains::limit(plan, rng),
         32 => order::order(plan, rng),
+        40 => stays::queue(plan, rng),
+        41 => stays::stays(plan, rng),
         _ => None,
     }
 }
 
 /// Changes that most plans bear.
 fn harmless(plan: &mut Plan, rng: &mut Rng) {
-    match rng.below(11) {
+    match rng.below(12) {
         0 => plan.precision = plan.precision.saturating_sub(1),
         1 => plan.tasks.iter_mut().for_each(|task| task[4] = task[2]),
         2 => plan.tasks.iter_mut().for_each(|task| task[1] = u32::MAX),
@@ -148,6 +163,11 @@ fn harmless(plan: &mut Plan, rng: &mut Rng) {
             }
         }
         9 => write_0(plan),
+        10 => {
+            let by = rng.within(1..=QUEUES - 1);
+            let streams = plan.streams.iter_mut();
+            streams.for_each(|row| row[5] = (row[5] + by) % QUEUES);
+        }
         _ if plan.windows.len() < ROW_BOUNDS[WINDOW as usize - 1].1 as usize => {
             generate::cut_window(plan, rng);
         }

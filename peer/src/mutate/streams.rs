@@ -1,7 +1,7 @@
 //! Changes aimed at questions 14 to 21.
 
 use super::{any_row, any_where, both_spans, chains, deadlines, insert, job_span, wide, word};
-use crate::image::{row_of, Frame, Plan, FRAME, LINK, ROW_BOUNDS};
+use crate::image::{row_of, Frame, Plan, FRAME, LINK, QUEUES, ROW_BOUNDS};
 use crate::rng::Rng;
 
 /// Any two tasks that serve.
@@ -87,7 +87,7 @@ fn ticks_on(plan: &Plan, stream: u32, link: u32) -> i64 {
 }
 
 /// The ticks that a frame takes.
-fn ticks(plan: &Plan, frame: usize) -> i64 {
+pub fn ticks(plan: &Plan, frame: usize) -> i64 {
     let [stream, _, _, link, ..] = plan.frames[frame];
     ticks_on(plan, stream, link)
 }
@@ -195,7 +195,7 @@ fn other_node(from: u32, to: u32) -> u32 {
 }
 
 /// The row of the frame of a stream, job and hop.
-fn frame_row(plan: &Plan, stream: u32, k: u32, hop: u32) -> Option<usize> {
+pub fn frame_row(plan: &Plan, stream: u32, k: u32, hop: u32) -> Option<usize> {
     let is_it = |frame: &Frame| frame[..3] == [stream, k, hop];
     plan.frames.iter().position(is_it)
 }
@@ -252,7 +252,8 @@ pub fn frame_clash(plan: &mut Plan, rng: &mut Rng) -> Option<()> {
             let own = word(ticks(plan, frame));
             let any = rng.within(0..=own);
             let late = rng.pick(&[own, own.saturating_sub(1), any]);
-            second_stream(plan, plan.frames[frame][0] as usize, late, rng)
+            let queues = rng.within(0..=QUEUES - 1);
+            second_stream(plan, plan.frames[frame][0] as usize, late, queues, rng)
         }
         4 => {
             let frame = any_row(&plan.frames, rng)?;
@@ -300,7 +301,7 @@ fn move_onto_frame(plan: &mut Plan, rng: &mut Rng) -> Option<()> {
 
 /// The first and last start that questions 15 and 18 leave a frame if it is
 /// sent on a link.
-fn frame_room(plan: &Plan, row: usize, link: u32) -> (i64, i64) {
+pub fn frame_room(plan: &Plan, row: usize, link: u32) -> (i64, i64) {
     let [stream, k, hop, ..] = plan.frames[row];
     let [sender, ..] = plan.streams[stream as usize];
     let own = ticks_on(plan, stream, link);
@@ -316,10 +317,19 @@ fn frame_room(plan: &Plan, row: usize, link: u32) -> (i64, i64) {
     (first, last)
 }
 
-/// A second stream beside one, its frames on the same links, so much later.
-fn second_stream(plan: &mut Plan, stream: usize, late: u32, rng: &mut Rng) -> Option<()> {
+/// A second stream beside one, its frames on the same links, so much later and
+/// so many queues on.
+pub fn second_stream(
+    plan: &mut Plan,
+    stream: usize,
+    late: u32,
+    queues: u32,
+    rng: &mut Rng,
+) -> Option<()> {
     let second = plan.streams.len() as u32;
-    insert_stream(plan, plan.streams[stream])?;
+    let mut words = plan.streams[stream];
+    words[5] = (words[5] + queues) % QUEUES;
+    insert_stream(plan, words)?;
     let of_stream = |frame: &&Frame| frame[0] as usize == stream;
     let frames: Vec<Frame> = plan.frames.iter().filter(of_stream).copied().collect();
     for mut frame in frames {
@@ -371,7 +381,7 @@ pub fn message_order(plan: &mut Plan, rng: &mut Rng) -> Option<()> {
 }
 
 /// Moves a frame to a new link beside its own.
-fn own_link(plan: &mut Plan, frame: usize) -> Option<()> {
+pub fn own_link(plan: &mut Plan, frame: usize) -> Option<()> {
     let beside = plan.links[plan.frames[frame][3] as usize];
     plan.frames[frame][3] = plan.links.len() as u32;
     plan.links.push(beside);

@@ -31,16 +31,20 @@ impl fmt::Display for Choice {
     }
 }
 
-/// Every choice of clocks, at most so far ahead, with the highest delays, then
-/// with others in turn; all others are among them.
+/// Every choice of clocks, at most so far ahead, with the highest delays and
+/// with the lowest, then with others in turn; all others are among them.
 pub fn choices(plan: &Plan, most: u32, rng: &mut Rng) -> Vec<Choice> {
     let clocks = clocks::choices(plan, most, rng);
     let others = delays::others(plan, rng);
     let highest = clocks.iter().map(|clocks| Choice::of(plan, clocks.clone()));
+    let lowest = clocks.iter().map(|clocks| Choice {
+        clocks: clocks.clone(),
+        delays: Delays::lowest(plan),
+    });
     let turns = 0..clocks.len().max(others.len());
     let in_turn = turns.map(|turn| Choice {
         clocks: clocks[turn % clocks.len()].clone(),
         delays: others[turn % others.len()].clone(),
     });
-    highest.chain(in_turn).collect()
+    highest.chain(lowest).chain(in_turn).collect()
 }

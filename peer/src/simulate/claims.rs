@@ -3,6 +3,7 @@
 
 use super::choices::Choice;
 use super::clocks::TrueTime;
+use super::queues::Queues;
 use super::reading::{JobId, Reading, Tick};
 use super::report::{Claim, Fact, Report, Violation};
 use crate::image::{Buffer, Frame, Plan, Window};
@@ -92,11 +93,12 @@ fn name(id: JobId) -> String {
 /// The frames, messages and chains of a run under one choice of clocks and
 /// delays.
 pub struct Messages<'a> {
-    plan: &'a Plan,
+    pub plan: &'a Plan,
     /// Each frame's earliest and latest arrival.
     arrivals: &'a [[u32; 2]],
-    choice: &'a Choice,
-    time: TrueTime,
+    pub queues: &'a Queues,
+    pub choice: &'a Choice,
+    pub time: TrueTime,
 }
 
 /// One message: a stream's of one job in one cycle.
@@ -111,24 +113,27 @@ impl<'a> Messages<'a> {
     pub fn new(
         plan: &'a Plan,
         arrivals: &'a [[u32; 2]],
+        queues: &'a Queues,
         cycle: u64,
         choice: &'a Choice,
     ) -> Messages<'a> {
         Messages {
             plan,
             arrivals,
+            queues,
             choice,
             time: TrueTime::new(plan, cycle, &choice.clocks),
         }
     }
 
-    /// Asks every claim about frames, messages and chains.
+    /// Asks every claim about frames, queues, messages and chains.
     pub fn ask(&self, reading: &Reading, report: &mut Report) {
         for cycle in 0..reading.cycles() {
             for frame in 0..self.plan.frames.len() {
                 self.ask_crossing(reading, cycle, frame, report);
             }
         }
+        self.ask_queues(reading, report);
         self.ask_messages(reading, report);
         for row in 0..self.plan.chains.len() {
             self.ask_chain(reading, row, report);
@@ -167,12 +172,18 @@ impl<'a> Messages<'a> {
 
     /// The true time at which a frame arrives, once it is sent in a cycle.
     fn crossed(&self, reading: &Reading, cycle: usize, frame: usize) -> Option<i128> {
+        let last = self.last_sent(reading, cycle, frame)?;
+        let delay = self.choice.delays.of(cycle, frame);
+        Some(self.time.end(last) + i128::from(delay))
+    }
+
+    /// The tick of a cycle with which a frame is sent, once it is.
+    pub fn last_sent(&self, reading: &Reading, cycle: usize, frame: usize) -> Option<Tick> {
         let [stream, _, _, link, ..] = self.plan.frames[frame];
         let [_, _, _, _, payload, ..] = self.plan.streams[stream as usize];
         let [_, _, _, rate, ..] = self.plan.links[link as usize];
-        let last = reading.sent(cycle, frame).get(last_tick(payload, rate))?;
-        let delay = self.choice.delays.of(cycle, frame);
-        Some(self.time.end(*last) + i128::from(delay))
+        let sent = reading.sent(cycle, frame);
+        sent.get(last_tick(payload, rate)).copied()
     }
 
     fn ask_messages(&self, reading: &Reading, report: &mut Report) {
@@ -337,11 +348,15 @@ fn last_tick(payload: u32, rate: u32) -> usize {
     tick
 }
 
-/// Asks of every hold that no other task of its buffer runs in it.
+/// Asks of every hold that no other task of its buffer runs in it. Tasks that
+/// have not equally many jobs have none.
 pub fn ask_holds(plan: &Plan, reading: &Reading, report: &mut Report) {
     for row in 0..plan.buffers.len() {
         let others = other_tasks(plan, row);
         let [_, writer, reader, ..] = plan.buffers[row];
+        if plan.jobs(writer) != plan.jobs(reader) {
+            continue;
+        }
         for writer in reading.ids(writer, reading.cycles()) {
             let reader = JobId {
                 task: reader,

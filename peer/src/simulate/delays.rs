@@ -21,6 +21,11 @@ impl Delays {
         Delays::from_fn(plan, |_, _, [_, highest]| highest)
     }
 
+    /// All as the links' lowest delays.
+    pub fn lowest(plan: &Plan) -> Delays {
+        Delays::from_fn(plan, |_, _, [lowest, _]| lowest)
+    }
+
     /// Each chosen for a cycle and a frame row, by the lowest and the highest
     /// delay of the frame's link.
     pub fn from_fn(plan: &Plan, mut delay: impl FnMut(usize, usize, [u32; 2]) -> u32) -> Delays {
@@ -45,11 +50,10 @@ impl fmt::Display for Delays {
     }
 }
 
-/// Delays besides the highest: all lowest; highest and lowest in turn, by
-/// cycle, and by frame too; one of both at random; and any.
-pub fn others(plan: &Plan, rng: &mut Rng) -> [Delays; 5] {
+/// Delays besides all highest and all lowest: both in turn, by cycle, and by
+/// frame too; one of both at random; and any.
+pub fn others(plan: &Plan, rng: &mut Rng) -> [Delays; 4] {
     [
-        Delays::from_fn(plan, |_, _, [lowest, _]| lowest),
         Delays::from_fn(plan, |cycle, _, bounds| bounds[cycle % 2]),
         Delays::from_fn(plan, |cycle, frame, bounds| bounds[(cycle + frame) % 2]),
         Delays::from_fn(plan, |_, _, bounds| rng.pick(&bounds)),

@@ -67,10 +67,10 @@ impl fmt::Display for Failure {
 pub fn simulate(settings: &Settings, all: &[&dyn Boundary]) -> Result<Summary, Failure> {
     let mut summary = Summary::default();
     for (number, mut rng) in settings.cases() {
-        let plan = if rng.chance(20) {
-            generate::kept_core(&mut rng)
-        } else {
-            generate::tiny(&mut rng)
+        let plan = match rng.below(100) {
+            0..=14 => generate::kept_core(&mut rng),
+            15..=34 => generate::busy_links(&mut rng),
+            _ => generate::tiny(&mut rng),
         };
         let case = Case::new(number, &plan, &mut rng);
         let tables = case.tables(all)?;

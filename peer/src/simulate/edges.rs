@@ -14,6 +14,7 @@ pub enum Dial {
     PieceLength(usize),
     Deadline(usize),
     Delay(usize),
+    LowestDelay(usize),
     Latency(usize),
     /// Turned on to where a frame takes more or fewer ticks.
     Payload(usize),
@@ -54,6 +55,7 @@ fn dials(plan: &Plan) -> Vec<Dial> {
     dials.extend((0..pieces).map(Dial::PieceLength));
     dials.extend((0..tasks).map(Dial::Deadline));
     dials.extend((0..links).map(Dial::Delay));
+    dials.extend((0..links).map(Dial::LowestDelay));
     dials.extend((0..streams).map(Dial::Latency));
     dials.extend((0..streams).map(Dial::Payload));
     dials.extend((0..links).map(Dial::Rate));
@@ -114,6 +116,7 @@ impl Dial {
             Dial::PieceLength(row) => &mut plan.pieces[row][3],
             Dial::Deadline(row) => &mut plan.tasks[row][4],
             Dial::Delay(row) => &mut plan.links[row][2],
+            Dial::LowestDelay(row) => &mut plan.links[row][4],
             Dial::Latency(row) => {
                 if plan.streams[row][2] == 0 {
                     plan.streams[row][2] = plan.deadline(plan.streams[row][1]);

@@ -13,6 +13,7 @@ mod delays;
 mod drive;
 mod edges;
 mod moves;
+mod queues;
 mod reading;
 mod report;
 mod rows;
@@ -35,6 +36,7 @@ pub use survey::{guarded, only_one_clock, only_shared_tasks, survey, Noticed, Su
 pub use tables::Tables;
 
 use claims::{ask_holds, ask_jobs, without_times, Messages};
+use queues::Queues;
 use reading::Reading;
 
 /// Asks every claim of a run, at every cut, under each choice.
@@ -43,7 +45,8 @@ pub fn examine(plan: &Plan, tables: &Tables, run: &Run, choices: &[Choice]) -> R
     let moves = moves::follow(plan.cycle, tables, run, &mut report);
     let mut at_end = report.clone();
     let plan = &without_times(plan);
-    let messages = |choice| Messages::new(plan, &tables.arrivals, run.cycle, choice);
+    let queues = Queues::of(plan);
+    let messages = |choice| Messages::new(plan, &tables.arrivals, &queues, run.cycle, choice);
     let messages: Vec<Messages> = choices.iter().map(messages).collect();
     for &cut in &moves.cuts {
         let reading = Reading::of(plan, &moves.shown, cut);

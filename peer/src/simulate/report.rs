@@ -33,6 +33,8 @@ pub enum Claim {
     Chain,
     /// No other task of its buffer runs in a hold.
     Hold,
+    /// No two frames are in one queue of a link at once.
+    Queue,
 }
 
 /// A claim that does not hold.
@@ -88,9 +90,13 @@ pub enum Fact {
     HoldOver,
     HoldOpen,
     HoldShared,
+    StayOver,
+    StayOpen,
+    StayTouches,
+    StayBeforeCycle,
 }
 
-pub const FACTS: [(Fact, &str); 23] = [
+pub const FACTS: [(Fact, &str); 27] = [
     (Fact::GaveZero, "calls that gave 0"),
     (Fact::GaveEnd, "calls that gave 28"),
     (Fact::Shown, "moves that showed their table's entry"),
@@ -126,6 +132,19 @@ pub const FACTS: [(Fact, &str); 23] = [
     (Fact::HoldOver, "holds over"),
     (Fact::HoldOpen, "holds open at the last tick shown"),
     (Fact::HoldShared, "holds of a buffer with other tasks"),
+    (Fact::StayOver, "frames alone in their queue until sent"),
+    (
+        Fact::StayOpen,
+        "frames alone in their queue at the last tick shown",
+    ),
+    (
+        Fact::StayTouches,
+        "  of both from the end of another's stay on",
+    ),
+    (
+        Fact::StayBeforeCycle,
+        "  of both from before their cycle on",
+    ),
 ];
 
 /// How often each fact was met.

@@ -14,7 +14,7 @@ pub fn rows(plan: &Plan) -> String {
     write(&mut text, "window", "VCPU start length", &plan.windows);
     write(&mut text, "piece", "task job start length", &plan.pieces);
     write(&mut text, "link", "from to delay rate lowest", &plan.links);
-    let stream = "sender receiver E hops payload";
+    let stream = "sender receiver E hops payload queue";
     write(&mut text, "stream", stream, &plan.streams);
     write(
         &mut text,

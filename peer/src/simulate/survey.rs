@@ -4,13 +4,13 @@ use super::drive::Case;
 use super::{edges, run_unchecked, unchecked, Choice, Claim, Clocks, Edge, Failure, Settings};
 use crate::check::check;
 use crate::generate;
-use crate::image::{row_of, Buffer, Plan, CHAIN, ROW_BOUNDS};
+use crate::image::{row_of, Buffer, Plan, CHAIN, QUEUES, ROW_BOUNDS};
 use crate::jobs::Jobs;
 use crate::mutate::{aim, write_0};
 use crate::rng::Rng;
 
 /// The questions that are broken.
-pub const QUESTIONS: [u32; 7] = [13, 18, 19, 20, 21, 24, 31];
+pub const QUESTIONS: [u32; 8] = [13, 18, 19, 20, 21, 24, 31, 41];
 
 /// The claim of runs that a question guards.
 pub fn guarded(question: u32) -> Claim {
@@ -19,6 +19,7 @@ pub fn guarded(question: u32) -> Claim {
         18..=20 => Claim::Arrived,
         21 => Claim::Latency,
         31 => Claim::Chain,
+        41 => Claim::Queue,
         _ => Claim::Hold,
     }
 }
@@ -51,16 +52,31 @@ pub struct Survey {
 pub fn survey(settings: &Settings) -> Result<Survey, Failure> {
     let mut survey = Survey::default();
     for (number, mut rng) in settings.cases() {
-        let mut plan = if rng.chance(30) {
-            generate::shared_buffer(&mut rng)
-        } else {
-            generate::tiny(&mut rng)
+        let mut plan = match rng.below(100) {
+            0..=27 => generate::shared_buffer(&mut rng),
+            28..=59 => generate::busy_links(&mut rng),
+            _ => generate::tiny(&mut rng),
         };
         put_0(number, &mut plan);
+        put_together(&mut plan);
         survey_edges(number, &plan, &mut survey.by_a_tick, &mut rng)?;
         survey_aims(number, &plan, &mut survey.by_aim, &mut rng)?;
     }
     Ok(survey)
+}
+
+/// Puts each stream into the lowest queue that it may be in, so that stays are
+/// near each other.
+fn put_together(plan: &mut Plan) {
+    for row in 0..plan.streams.len() {
+        let in_queue = |queue| {
+            let mut plan = plan.clone();
+            plan.streams[row][5] = queue;
+            check(&plan.encode()).is_accepted().then_some(queue)
+        };
+        let lowest = (0..QUEUES).find_map(in_queue);
+        plan.streams[row][5] = lowest.expect("its own is one");
+    }
 }
 
 /// Whether in a plan an E or a limit of 0 is to be passed by a tick.

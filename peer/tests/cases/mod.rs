@@ -101,3 +101,20 @@ pub fn two_hops(rates: [u32; 2], second_start: u32) -> Plan {
     plan.pieces[1][2] = 40;
     plan
 }
+
+/// Case B with a cycle of 40 ticks and its receiver at 30, over two hops of one
+/// tick each: from node 0 at 6, and from node 2 at 20. A second stream, of a
+/// sender on node 2 whose job ends at 6, goes over the second link at a start.
+pub fn one_queue(start: u32) -> Plan {
+    let mut plan = case_b();
+    (plan.cycle, plan.precision) = (40, 2);
+    plan.cores.push(row_of([2, 1, 2]));
+    plan.vcpus.push(row_of([2]));
+    plan.tasks = (0..3).map(|vcpu| row_of([vcpu, 7, 40, 3, 40])).collect();
+    plan.windows = (0..3).map(|vcpu| row_of([vcpu, 0, 40])).collect();
+    plan.pieces = rows_of(&[[0, 0, 2, 4], [2, 0, 2, 4], [1, 0, 30, 4]]);
+    plan.links = rows_of(&[[0, 2, 6, 704, 3], [2, 1, 1, 704, 1]]);
+    plan.streams = rows_of(&[[0, 1, 40, 2, 46, 4], [2, 1, 40, 1, 46, 4]]);
+    plan.frames = rows_of(&[[0, 0, 0, 0, 6], [1, 0, 0, 1, start], [0, 0, 1, 1, 20]]);
+    plan.in_order()
+}

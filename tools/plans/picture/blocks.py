@@ -1,4 +1,4 @@
-"""Windows, pieces, frames and holds as blocks in their lanes."""
+"""Windows, pieces, frames, stays and holds as blocks in their lanes."""
 from dataclasses import dataclass
 
 from .lanes import tracks_of
@@ -39,6 +39,8 @@ def draw_blocks(scene):
         for block in described:
             if scene.marks.has(block.kind, block.row) and not scene.scale.shows(block.start, block.end):
                 _point_out_of_view(scene, block)
+    for stay in sorted(scene.stays, key=lambda stay: scene.marks.has("stay", stay.frame)):
+        draw_stay(scene, stay, scene.stay_tracks[stay])
     for hold in scene.holds:
         draw_hold(scene, hold, scene.hold_tracks[hold])
 
@@ -98,6 +100,25 @@ def draw_piece(scene, block, shift):
     _label(scene, x + head, width - head, y, height, block.labels, marked)
     if marked:
         _pointer(scene, x + width / 2, y)
+
+
+def draw_stay(scene, stay, track):
+    """A frame in its queue: while it waits, then while it is sent, in its sender's colour."""
+    lane, row = scene.lanes.get("queue", (stay.link, stay.queue)), scene.plan.rows["frame"][stay.frame]
+    if not lane:
+        return
+    marked, y, name = scene.marks.has("stay", stay.frame), lane.block(track), scene.plan.name("stream", row.stream)
+    queue = f"queue {stay.queue} of {scene.plan.name('link', stay.link)}"
+    title = f"{scene.plan.name('frame', stay.frame)} in {queue}: {name} job {row.job} hop {row.hop}, {stay.begin}..{stay.end}, waits {stay.waits}"
+    labels, sending = (f"{name}.{row.job}", name), f"p {tint(scene.plan.rows['stream'][row.stream].sender)}"
+    for start, end, look in ((stay.begin, stay.start, "wait"), (stay.start, stay.end, sending)):
+        if start < end and scene.scale.shows(start, end):
+            block = Block("stay", stay.frame, lane, start, end, 0, title, labels, look)
+            _rect(scene, block, y, lane.block_height, marked)
+    x = scene.scale.x(stay.begin)
+    _label(scene, x, scene.scale.x(stay.end) - x, y, lane.block_height, labels, marked)
+    if marked:
+        _pointer(scene, x + 12, y + 3)
 
 
 def draw_hold(scene, hold, track):

@@ -18,6 +18,7 @@ def near(plan, answer, ticks):
     marks = Marks(plan, meaning, answer)
     spans = [(row.start, row.start + row.length) for kind in ("window", "piece") for row in marks.records(plan, kind)]
     spans += [(row.start, row.start) for row in marks.records(plan, "frame")]
+    spans += [(stay.begin, stay.end) for stay in meaning.stays() if marks.has("stay", stay.frame)]
     spans += [(hold.start, hold.end) for hold in meaning.holds() if marks.has("buffer", hold.row)]
     if not spans:
         return None

@@ -1,4 +1,4 @@
-"""Lanes from top to bottom: cores, links, then a lane for each shared buffer."""
+"""Lanes from top to bottom: cores, links, each with its queues under it, then a lane for each shared buffer."""
 from dataclasses import dataclass
 
 MANY = 20  # lanes; more are drawn low
@@ -22,10 +22,15 @@ class Lane:
     low: bool = False
     jobs: bool = False
 
-    HEIGHTS = {"core": (50, 22), "link": (28, 13), "buffer": (22, 13)}
-    MARGINS = {"core": (16, 2), "link": (6, 2), "buffer": (3, 2)}
-    BELOW = {"core": (4, 2), "link": (0, 0), "buffer": (4, 2)}
+    HEIGHTS = {"core": (50, 22), "link": (28, 13), "queue": (18, 11), "buffer": (22, 13)}
+    MARGINS = {"core": (16, 2), "link": (6, 2), "queue": (2, 1), "buffer": (3, 2)}
+    BELOW = {"core": (4, 2), "link": (0, 0), "queue": (2, 1), "buffer": (4, 2)}
     WAY = (6, 3)
+
+    @property
+    def group(self):
+        """Lanes of one group stand close: a link's queues belong to it."""
+        return "link" if self.kind == "queue" else self.kind
 
     @property
     def track_height(self):
@@ -68,7 +73,7 @@ class Lanes:
         self.by_key = {(lane.kind, lane.key): lane for lane in lanes}
         for before, lane in zip([None, *lanes], lanes):
             lane.low = len(lanes) > MANY
-            between = self.GAP if before and before.kind != lane.kind else 2
+            between = self.GAP if before and before.group != lane.group else 2
             lane.top = before.bottom + between if before else top
         self.bottom = lanes[-1].bottom if lanes else top
 
@@ -83,12 +88,25 @@ def core_lanes(plan):
         yield Lane("core", number, f"{plan.name('core', number)} · node {core.node}", f"d {core.d}, v {core.v}")
 
 
-def link_lanes(plan, ways):
-    """A lane for each link, by row, with as many ways as its frames need."""
+def link_lanes(plan, ways, stays):
+    """A lane for each link, by row, with as many ways as its frames need, and under it one for each queue that a frame stays in."""
     for number, link in enumerate(plan.rows["link"]):
         label, delays = f"{plan.name('link', number)} · {link.from_node}→{link.to_node}", f"{link.lowest}..{link.delay}"
         deepest = max((way for frame, way in ways.items() if plan.rows["frame"][frame].link == number), default=0)
         yield Lane("link", number, label, f"delay {delays}, rate {link.rate}", ways=deepest + 1)
+        yield from queue_lanes([stay for stay in stays if stay.link == number])
+
+
+def queue_lanes(stays):
+    """A lane for each queue that has a stay, by number; stays that overlap stand in tracks of their own."""
+    tracks = stay_tracks(stays)
+    for link, queue in sorted({(stay.link, stay.queue) for stay in stays}):
+        deepest = max(track for stay, track in tracks.items() if stay.queue == queue)
+        yield Lane("queue", (link, queue), f"queue {queue}", "", tracks=deepest + 1)
+
+
+def stay_tracks(stays):
+    return tracks_of([((stay.link, stay.queue), stay.begin, stay.end, stay) for stay in stays])
 
 
 def stray_lanes(plan, meaning):

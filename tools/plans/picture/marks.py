@@ -1,6 +1,8 @@
 """The rows to mark for an answer: the row it names and what belongs to it."""
 from collections import defaultdict
 
+from ..answers import STAYS
+
 
 class Marks:
     """Marked row numbers, kind by kind."""
@@ -11,6 +13,8 @@ class Marks:
         if answer and answer.kind:
             self.rows[answer.kind].add(answer.row)
             BELONGING.get(answer.kind, lambda *_: None)(self, plan, meaning, answer.row)
+            if answer.number == STAYS:
+                self.rows["stay"].add(answer.row)
 
     def has(self, kind, row):
         return row in self.rows[kind]

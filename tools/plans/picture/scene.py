@@ -1,6 +1,6 @@
 """What all parts of a picture share: plan, meaning, marks, scale, lanes and the SVG they draw on."""
 from ..meaning import Meaning
-from .lanes import Lanes, buffer_lanes, core_lanes, hold_tracks, link_lanes, stray_lanes, ways_of
+from .lanes import Lanes, buffer_lanes, core_lanes, hold_tracks, link_lanes, stay_tracks, stray_lanes, ways_of
 from .marks import Marks
 from .scale import Scale, view_of, width_of
 from .style import FONT, SMALL, cut, text_width
@@ -22,6 +22,7 @@ class Scene:
         first, last = self._ticks(options)
         self.holds = [hold for hold in self.meaning.holds() if hold.start < last and hold.end > first]
         self.hold_by_job = {(hold.row, hold.job): hold for hold in self.holds}
+        self.stays = [stay for stay in self.meaning.stays() if stay.begin < last and stay.end > first]
         self.ways = ways_of(plan, self.meaning, first, last)
         lanes = self._chosen(options.lanes)
         with_jobs = {("core", self.meaning.core_of_task(task)) for task, _ in self.marked_jobs()}
@@ -31,20 +32,25 @@ class Scene:
         self.scale = Scale(first, last, self._left(lanes), options.width or self._width(first, last))
         self.lanes = Lanes(lanes, top)
         self.hold_tracks = hold_tracks(self.holds)
+        self.stay_tracks = stay_tracks(self.stays)
 
     def way(self, frame):
         """The way under the frames of its link that a frame has."""
         return self.ways.get(frame, 0)
 
     def _chosen(self, names):
-        """Cores and links by name, all if none is named, and the buffers whose writer or reader is on such a core."""
-        lanes = [*core_lanes(self.plan), *link_lanes(self.plan, self.ways)]
+        """Cores and links with their queues by name, all if none is named, and the buffers whose writer or reader is on such a core."""
+        lanes = [*core_lanes(self.plan), *link_lanes(self.plan, self.ways, self.stays)]
         if not names:
             lanes += stray_lanes(self.plan, self.meaning)
         else:
-            lanes = [lane for lane in lanes if self.plan.name(lane.kind, lane.key) in names]
+            lanes = [lane for lane in lanes if self._name(lane) in names]
         cores = {lane.key for lane in lanes if lane.kind == "core"}
         return [*lanes, *buffer_lanes([hold for hold in self.holds if cores & self._cores_of(hold)])]
+
+    def _name(self, lane):
+        """What a core's or a link's lane is chosen by; a queue's goes with its link's."""
+        return self.plan.name("link", lane.key[0]) if lane.kind == "queue" else self.plan.name(lane.kind, lane.key)
 
     def _cores_of(self, hold):
         row = self.plan.rows["buffer"][hold.row]

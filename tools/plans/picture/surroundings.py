@@ -30,7 +30,7 @@ def draw_axis(scene):
     svg, scale, lanes, cycle = scene.svg, scene.scale, scene.lanes, scene.plan.cycle
     top, bottom = lanes.all[0].top - 6 if lanes.all else 60, lanes.bottom + 6
     for lane in lanes.all:
-        svg.rect("lane", scale.left, lane.top, scale.width, lane.height)
+        svg.rect("lane queue" if lane.kind == "queue" else "lane", scale.left, lane.top, scale.width, lane.height)
     for tick in scale.steps():
         svg.line("grid", scale.x(tick), top, scale.x(tick), bottom)
         svg.text("small mid", scale.x(tick), top - 4, str(tick))
@@ -60,6 +60,7 @@ def legend(scene):
     if scene.plan.rows["frame"]:
         yield "p t0", "work, or a frame in its sender's colour"
         yield from (("delay", "link delay"), ("arrival", "arrival, earliest to latest"), ("p-wait", "P"), ("a", "message"))
+        yield "wait", "a frame that waits in its queue"
     else:
         yield "p t0", "work"
     if scene.holds:

@@ -10,10 +10,10 @@ use Rattle.cases.proofs.changed.Reads as changed-reads
 use Rattle.cases.proofs.put.Reads as put-reads
 
 abbrev Inv-loop : tie.InvT-loop
-Inv-loop image₀ k at place value second other i₀ image i = (i ≤ 70) × (length image ≡ length image₀)
+Inv-loop image₀ k at place value second other i₀ image i = (i ≤ 71) × (length image ≡ length image₀)
 
 abbrev μ-loop : tie.MeasureT-loop
-μ-loop image₀ k at place value second other i₀ image i = 70 - i
+μ-loop image₀ k at place value second other i₀ image i = 71 - i
 
 -- src/main.rt:263:14
 mul-at : tie.Need-mul-at Inv-loop μ-loop

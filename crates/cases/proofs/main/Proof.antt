@@ -16,10 +16,10 @@ abbrev μ-loop : tie.MeasureT-loop
 μ-loop a₀ a = 15 - a
 
 abbrev Inv-loop2 : tie.InvT-loop2
-Inv-loop2 a b₀ b = b ≤ 3
+Inv-loop2 a b₀ b = b ≤ 4
 
 abbrev μ-loop2 : tie.MeasureT-loop2
-μ-loop2 a b₀ b = 3 - b
+μ-loop2 a b₀ b = 4 - b
 
 -- src/main.rt:318:5
 loop-holds : tie.Need-loop-holds Inv-loop μ-loop Inv-loop2 μ-loop2

@@ -28,7 +28,7 @@ returns-2 c = let s = c .before .before .before .before .before .before .before 
 
 -- src/lib.rt:23:5
 ask-requires-3 : tie.Need-ask-requires-3
-ask-requires-3 c κs = let s = c .before .before .before .before .before .before .before .before .args .image .now in let p = c .before .before .before .before .before .before .before .before .pre in (before-chains s (sym (ap (λ (x : Answer). x .number) (c .before .before .before .before .before .ask .ensures)) ∙ c .before .before .before .if1 .left) (p .0) (p .1 .0) (sym (ap (λ (x : Answer). x .number) (c .before .before .ask2 .ensures)) ∙ c .if2 .left), p .1 .1)
+ask-requires-3 c κs = let s = c .before .before .before .before .before .before .before .before .args .image .now in let p = c .before .before .before .before .before .before .before .before .pre in (before-chains s (sym (ap (λ (x : Answer). x .number) (c .before .before .before .before .before .ask .ensures)) ∙ c .before .before .before .if1 .left) (p .0) (p .1 .1 .0) (sym (ap (λ (x : Answer). x .number) (c .before .before .ask2 .ensures)) ∙ c .if2 .left), p .1 .1 .1)
 
 -- src/lib.rt:11:1
 returns-3 : tie.Need-returns-3

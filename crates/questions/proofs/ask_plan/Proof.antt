@@ -27,7 +27,7 @@ slice-aggregate-ask-messages c = search needs
 
 -- src/lib.rt:36:5
 ask-messages-requires : tie.Need-ask-messages-requires
-ask-messages-requires c κs = let s = c .before .before .before .before .before .before .before .args .image .now in let e = c .before .before .before .before .ask .ensures in (c .before .before .before .before .before .before .before .pre, (pieces-passed s (sym (ap (λ (x : Answer). x .number) (e .0)) ∙ c .before .if1 .left), e .1 (c .before .if1 .left)))
+ask-messages-requires c κs = let s = c .before .before .before .before .before .before .before .args .image .now in let e = c .before .before .before .before .ask .ensures in let p = c .before .before .before .before .before .before .before .pre in (p .0, (p .1, (pieces-passed s (sym (ap (λ (x : Answer). x .number) (e .0)) ∙ c .before .if1 .left), e .1 (c .before .if1 .left))))
 
 -- src/lib.rt:27:1
 returns-2 : tie.Need-returns-2

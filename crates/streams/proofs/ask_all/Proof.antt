@@ -16,16 +16,16 @@ use Rattle.streams.proofs.first_no.Reads as first-no-reads
 use Rattle.streams.proofs.question_at.Reads as question-at-reads
 
 abbrev Inv-loop : tie.InvT-loop
-Inv-loop image times index place₀ place = (place ≤ 8) × Passed (streamQuestions image) place
+Inv-loop image times index place₀ place = (place ≤ 9) × Passed (streamQuestions image) place
 
 abbrev μ-loop : tie.MeasureT-loop
-μ-loop image times index place₀ place = 8 - place
+μ-loop image times index place₀ place = 9 - place
 
 loop-holds : tie.Need-loop-holds Inv-loop μ-loop
 loop-holds c = (omega arith, passed-none (streamQuestions (c .before .before .before .args .image .now)))
 
 first-no-requires : tie.Need-first-no-requires Inv-loop μ-loop
-first-no-requires c κs = let p = c .before .before .before .before .before .pre in let l = c .before .loop in record { sound = p .0; timed = p .1 .0; indexed = p .1 .1; listed = omega arith; passed = l .inv .1 }
+first-no-requires c κs = let p = c .before .before .before .before .before .pre in let l = c .before .loop in record { sound = p .0; queued = p .1 .0; timed = p .1 .1 .0; indexed = p .1 .1 .1; listed = omega arith; passed = l .inv .1 }
 
 enum-known-row : tie.Need-enum-known-row Inv-loop μ-loop
 enum-known-row c = search needs

@@ -1,3 +1,4 @@
+use Rattle.streams.proofs.Asked.{framed-at}
 use Prim.Native.Nat.{ℕ, _-_}
 use mathlib.Core.Path.{sym, ap, _∙_}
 use native.Mathlib.Omega.{arith}
@@ -21,9 +22,12 @@ first-unframed-requires c κs = let a = c .before .before .before .before .args 
 first-clash-requires : tie.Need-first-clash-requires
 first-clash-requires c κs = let p = c .before .before .before .before .pre in (p .sound, frames-last _ (p .sound))
 
+first-clash-requires-2 : tie.Need-first-clash-requires-2
+first-clash-requires-2 c κs = let a = c .before .before .before .before .args in let p = c .before .before .before .before .pre in let e = c .match .keys3 in record { framed = framed-at (a .image .now) (a .times .now) (a .index .now) (a .place) p (omega arith); queued = p .queued; timed = p .timed; indexed = p .indexed; passed = λ j l. p .passed j (omega arith) }
+
 -- src/lib.rt:232:14
 first-row-requires : tie.Need-first-row-requires
-first-row-requires c κs = (c .before .before .before .before .pre, (c .match .rest .0 .1, c .match .rest .1))
+first-row-requires c κs = (c .before .before .before .before .pre, (c .match .rest .0 .0 .1, c .match .rest .0 .1, c .match .rest .1))
 
 -- src/lib.rt:226:1
 returns : tie.Need-returns
@@ -34,7 +38,11 @@ unfolding questionAt each streamQuestions tableFor clearOf
 returns-2 c = let a = c .before .before .before .before .before .args in let s = a .image .now in c .first-clash .ensures ∙ sym (ap (λ (n : ℕ). refusing (questionAt (streamQuestions s) n)) (c .before .match .keys2))
 
 returns-3 : tie.Need-returns-3
-returns-3 c = c .first-row .ensures
+unfolding questionAt each streamQuestions
+returns-3 c = let a = c .before .before .before .before .before .args in let s = a .image .now in c .first-clash2 .ensures ∙ sym (ap (λ (n : ℕ). refusing (questionAt (streamQuestions s) n)) (c .before .match .keys3))
+
+returns-4 : tie.Need-returns-4
+returns-4 c = c .first-row .ensures
 
 pub first-no-spec : {M : Type 1} → statement M
-first-no-spec = tie.close (tie.spec first-unframed-requires first-clash-requires first-row-requires returns returns-2 returns-3)
+first-no-spec = tie.close (tie.spec first-unframed-requires first-clash-requires first-clash-requires-2 first-row-requires returns returns-2 returns-3 returns-4)

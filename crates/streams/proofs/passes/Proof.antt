@@ -2,7 +2,7 @@ use Prim.Native.Nat.{ℕ, _<_}
 use mathlib.Core.Path.{sym, ap, subst, _∙_}
 use native.Mathlib.Omega.{arith}
 use Rattle.plan.specs.Questions.{questionAt, each, streamQuestions}
-use Rattle.streams.proofs.Asked.{of-jobs, framed-at, from-jobs}
+use Rattle.streams.proofs.Asked.{of-jobs, not-last, framed-at, from-jobs}
 use Rattle.streams.proofs.passes.Statement.{statement}
 use Rattle.streams.proofs.passes.Tie as tie
 
@@ -19,7 +19,7 @@ unfolding questionAt each streamQuestions
 hop-waits-requires c κs = let a = c .before .before .before .before .args in let p = c .before .before .before .before .pre in let s = a .image .now in let e = c .match .keys3 in (framed-at s (a .times .now) (a .index .now) (a .place) (p .0 .0) (omega arith), (p .0 .0 .indexed, subst (λ (n : ℕ). a .row < questionAt (streamQuestions s) n .many) e (p .1)))
 
 each-job-requires : tie.Need-each-job-requires
-each-job-requires c κs = let a = c .before .before .before .before .args in let p = c .before .before .before .before .pre in let s = a .image .now in let r = c .match .rest in let g = from-jobs (a .place) (r .0 .0 .1) (r .0 .1) (p .0 .1 .0) in let j = of-jobs s (a .place) g (p .0 .0 .listed) (r .1) (p .0 .1 .1) in (p .0 .0, (g, rw (← j .many) (p .1)))
+each-job-requires c κs = let a = c .before .before .before .before .args in let p = c .before .before .before .before .pre in let s = a .image .now in let r = c .match .rest in let g = from-jobs (a .place) (r .0 .0 .1) (r .0 .1) (p .0 .1 .0) in let j = of-jobs s (a .place) g (not-last (a .place) (p .0 .0 .listed) (p .0 .1 .2)) (r .1) (p .0 .1 .1) in (p .0 .0, (g, rw (← j .many) (p .1)))
 
 returns : tie.Need-returns
 unfolding questionAt each streamQuestions
@@ -34,7 +34,7 @@ unfolding questionAt each streamQuestions
 returns-3 c = let a = c .before .before .before .before .before .args in let s = a .image .now in c .hop-waits .ensures ∙ sym (ap (λ (n : ℕ). questionAt (streamQuestions s) n .ok (a .row)) (c .before .match .keys3))
 
 returns-4 : tie.Need-returns-4
-returns-4 c = let a = c .before .before .before .before .before .args in let p = c .before .before .before .before .before .pre in let s = a .image .now in let r = c .before .match .rest in let g = from-jobs (a .place) (r .0 .0 .1) (r .0 .1) (p .0 .1 .0) in let j = of-jobs s (a .place) g (p .0 .0 .listed) (r .1) (p .0 .1 .1) in c .each-job .ensures ∙ j .ok (a .row)
+returns-4 c = let a = c .before .before .before .before .before .args in let p = c .before .before .before .before .before .pre in let s = a .image .now in let r = c .before .match .rest in let g = from-jobs (a .place) (r .0 .0 .1) (r .0 .1) (p .0 .1 .0) in let j = of-jobs s (a .place) g (not-last (a .place) (p .0 .0 .listed) (p .0 .1 .2)) (r .1) (p .0 .1 .1) in c .each-job .ensures ∙ j .ok (a .row)
 
 pub passes-spec : {M : Type 1} → statement M
 passes-spec =

@@ -37,7 +37,11 @@ returns-7 c = rw (c .match .keys7) (λ s. refl)
 
 returns-8 : tie.Need-returns-8
 unfolding questionAt each streamQuestions
-returns-8 c = let r = c .match .rest in let i = c .before .args .place in let e : i ≡ 7 = omega (arith, c .before .pre, (above i 6 (above i 5 (above i 4 (above i 3 (above i 2 (above i 1 (above i 0 (omega arith) (r .0 .0 .0 .0 .0 .0 .1)) (r .0 .0 .0 .0 .0 .1)) (r .0 .0 .0 .0 .1)) (r .0 .0 .0 .1)) (r .0 .0 .1)) (r .0 .1)) (r .1))) in rw e (λ s. refl)
+returns-8 c = rw (c .match .keys8) (λ s. refl)
+
+returns-9 : tie.Need-returns-9
+unfolding questionAt each streamQuestions
+returns-9 c = let r = c .match .rest in let i = c .before .args .place in let e : i ≡ 8 = omega (arith, c .before .pre, (above i 7 (above i 6 (above i 5 (above i 4 (above i 3 (above i 2 (above i 1 (above i 0 (omega arith) (r .0 .0 .0 .0 .0 .0 .0 .1)) (r .0 .0 .0 .0 .0 .0 .1)) (r .0 .0 .0 .0 .0 .1)) (r .0 .0 .0 .0 .1)) (r .0 .0 .0 .1)) (r .0 .0 .1)) (r .0 .1)) (r .1))) in rw e (λ s. refl)
 
 pub question-at-spec : {M : Type 1} → statement M
-question-at-spec = tie.close (tie.spec returns returns-2 returns-3 returns-4 returns-5 returns-6 returns-7 returns-8)
+question-at-spec = tie.close (tie.spec returns returns-2 returns-3 returns-4 returns-5 returns-6 returns-7 returns-8 returns-9)

@@ -32,10 +32,15 @@ field-of-requires-5 : tie.Need-field-of-requires-5
 unfolding shape
 field-of-requires-5 c κs = let p = c .before .before .before .before .before .pre in (p .0, (p .1, omega arith))
 
+-- src/lib.rt:288:16
+field-of-requires-6 : tie.Need-field-of-requires-6
+unfolding shape
+field-of-requires-6 c κs = let p = c .before .before .before .before .before .before .pre in (p .0, (p .1, omega arith))
+
 -- src/lib.rt:224:5
 returns : tie.Need-returns
 unfolding stream
-returns c = rw (c .field-of5 .ensures, c .before .field-of4 .ensures, c .before .before .field-of3 .ensures, c .before .before .before .field-of2 .ensures, c .before .before .before .before .field-of .ensures) refl
+returns c = rw (c .field-of6 .ensures, c .before .field-of5 .ensures, c .before .before .field-of4 .ensures, c .before .before .before .field-of3 .ensures, c .before .before .before .before .field-of2 .ensures, c .before .before .before .before .before .field-of .ensures) refl
 
 pub stream-at-spec : {M : Type 1} → statement M
 stream-at-spec =
@@ -46,4 +51,5 @@ stream-at-spec =
     field-of-requires-3
     field-of-requires-4
     field-of-requires-5
+    field-of-requires-6
     returns)

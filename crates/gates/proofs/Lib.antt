@@ -1,0 +1,4 @@
+pub mod Matching
+pub mod Walking
+pub mod Own
+pub mod Witness

@@ -1,0 +1,4 @@
+pub mod Gates
+pub mod Claim
+pub mod Walks
+pub mod Cases
