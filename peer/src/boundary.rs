@@ -7,6 +7,24 @@ use crate::image::WORD;
 /// Bytes of a state.
 pub const STATE: usize = 28;
 
+/// Calls that a boundary answers as this package's own implementation does.
+#[macro_export]
+macro_rules! as_peer {
+    ($($call:ident),+) => { $($crate::as_peer! { @ $call })+ };
+    (@ check) => { $crate::as_peer! { @ check(image: &[u8]) -> u64 } };
+    (@ build) => { $crate::as_peer! { @ build(image: &[u8], lane: u32, words: &mut [u8]) -> u64 } };
+    (@ start) => { $crate::as_peer! { @ start(cycle: u64, first: u32, state: &mut [u8]) -> u32 } };
+    (@ step) => { $crate::as_peer! { @ step(words: &[u8], state: &mut [u8]) -> u32 } };
+    (@ step_all) => { $crate::as_peer! { @ step_all(words: &[u8], states: &mut [u8]) -> u32 } };
+    (@ arrivals) => { $crate::as_peer! { @ arrivals(image: &[u8], frame: u32, ticks: &mut [u8]) -> u64 } };
+    (@ gates) => { $crate::as_peer! { @ gates(image: &[u8], link: u32, words: &mut [u8]) -> u64 } };
+    (@ $call:ident($($name:ident: $type:ty),+) -> $answer:ty) => {
+        fn $call(&self, $($name: $type),+) -> $answer {
+            $crate::boundary::Boundary::$call(&$crate::boundary::Peer, $($name),+)
+        }
+    };
+}
+
 /// The functions over byte slices.
 pub trait Boundary {
     fn check(&self, image: &[u8]) -> u64;

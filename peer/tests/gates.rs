@@ -6,6 +6,7 @@ mod cases;
 mod ways;
 
 use cases::{case_a, case_b};
+use peer::as_peer;
 use peer::boundary::{read_words, write_words, Boundary, Peer};
 use peer::generate::{accepted, busy_links, tiny};
 use peer::harness::{run, Settings};
@@ -486,29 +487,7 @@ impl Faulty {
 }
 
 impl Boundary for Faulty {
-    fn check(&self, image: &[u8]) -> u64 {
-        Peer.check(image)
-    }
-
-    fn build(&self, image: &[u8], lane: u32, words: &mut [u8]) -> u64 {
-        Peer.build(image, lane, words)
-    }
-
-    fn start(&self, cycle: u64, first: u32, state: &mut [u8]) -> u32 {
-        Peer.start(cycle, first, state)
-    }
-
-    fn step(&self, words: &[u8], state: &mut [u8]) -> u32 {
-        Peer.step(words, state)
-    }
-
-    fn step_all(&self, words: &[u8], states: &mut [u8]) -> u32 {
-        Peer.step_all(words, states)
-    }
-
-    fn arrivals(&self, image: &[u8], frame: u32, ticks: &mut [u8]) -> u64 {
-        Peer.arrivals(image, frame, ticks)
-    }
+    as_peer!(check, build, start, step, step_all, arrivals);
 
     fn gates(&self, image: &[u8], link: u32, words: &mut [u8]) -> u64 {
         let answer = check(image);

@@ -4,6 +4,7 @@
 #[macro_use]
 mod ways;
 
+use peer::as_peer;
 use peer::boundary::{write_words, Boundary, Peer, STATE};
 use peer::harness::{run, Settings};
 use peer::naive::Naive;
@@ -122,6 +123,8 @@ impl Faulty {
 }
 
 impl Boundary for Faulty {
+    as_peer!(gates);
+
     fn check(&self, image: &[u8]) -> u64 {
         self.changed(Peer.check(image))
     }
@@ -176,10 +179,6 @@ impl Boundary for Faulty {
             _ => {}
         }
         answer
-    }
-
-    fn gates(&self, image: &[u8], link: u32, words: &mut [u8]) -> u64 {
-        Peer.gates(image, link, words)
     }
 
     fn start(&self, cycle: u64, first: u32, state: &mut [u8]) -> u32 {

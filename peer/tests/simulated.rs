@@ -3,6 +3,7 @@
 mod cases;
 
 use cases::{case_a, case_b, case_chain, case_chain_deadline, case_deadline, two_rows};
+use peer::as_peer;
 use peer::boundary::{read_state, read_words, write_state, Boundary, Peer, STATE};
 use peer::generate::{shared_buffer, tiny};
 use peer::image::{row_of, rows_of};
@@ -86,9 +87,7 @@ use Fault::*;
 struct Faulty(Fault);
 
 impl Boundary for Faulty {
-    fn check(&self, image: &[u8]) -> u64 {
-        Peer.check(image)
-    }
+    as_peer!(check, gates, start);
 
     fn build(&self, image: &[u8], lane: u32, words: &mut [u8]) -> u64 {
         if self.0 == BuildsNothing {
@@ -107,14 +106,6 @@ impl Boundary for Faulty {
             _ => {}
         }
         answer
-    }
-
-    fn gates(&self, image: &[u8], link: u32, words: &mut [u8]) -> u64 {
-        Peer.gates(image, link, words)
-    }
-
-    fn start(&self, cycle: u64, first: u32, state: &mut [u8]) -> u32 {
-        Peer.start(cycle, first, state)
     }
 
     fn step(&self, words: &[u8], state: &mut [u8]) -> u32 {

@@ -6,6 +6,7 @@ mod cases;
 mod ways;
 
 use cases::{case_b, one_queue, two_hops};
+use peer::as_peer;
 use peer::boundary::{Boundary, Peer};
 use peer::harness::{run, Settings};
 use peer::image::{row_of, rows_of, Frame, Piece};
@@ -439,32 +440,10 @@ fn other_queues(reading: Reading, image: &[u8], right: Answer) -> Answer {
 struct Misread(Reading);
 
 impl Boundary for Misread {
+    as_peer!(build, start, step, step_all, arrivals, gates);
+
     fn check(&self, image: &[u8]) -> u64 {
         answer(self.0, image, check(image)).code()
-    }
-
-    fn build(&self, image: &[u8], lane: u32, words: &mut [u8]) -> u64 {
-        Peer.build(image, lane, words)
-    }
-
-    fn start(&self, cycle: u64, first: u32, state: &mut [u8]) -> u32 {
-        Peer.start(cycle, first, state)
-    }
-
-    fn step(&self, words: &[u8], state: &mut [u8]) -> u32 {
-        Peer.step(words, state)
-    }
-
-    fn step_all(&self, words: &[u8], states: &mut [u8]) -> u32 {
-        Peer.step_all(words, states)
-    }
-
-    fn arrivals(&self, image: &[u8], frame: u32, ticks: &mut [u8]) -> u64 {
-        Peer.arrivals(image, frame, ticks)
-    }
-
-    fn gates(&self, image: &[u8], link: u32, words: &mut [u8]) -> u64 {
-        Peer.gates(image, link, words)
     }
 }
 

@@ -1,6 +1,7 @@
 //! The tick timer (request 12) as a library gives it: a right one is not blamed,
 //! and each wrong one is noticed.
 
+use peer::as_peer;
 use peer::boundary::{Boundary, Peer, STATE};
 use peer::timers::{run, Asked, Difference, Fault, Met, Settings, Standin, Timers};
 
@@ -209,32 +210,10 @@ type Step = fn(&[u8], &mut [u8]) -> u32;
 struct Steps(Step);
 
 impl Boundary for Steps {
-    fn check(&self, image: &[u8]) -> u64 {
-        Boundary::check(&Peer, image)
-    }
-
-    fn build(&self, image: &[u8], lane: u32, words: &mut [u8]) -> u64 {
-        Peer.build(image, lane, words)
-    }
-
-    fn start(&self, cycle: u64, first: u32, state: &mut [u8]) -> u32 {
-        Peer.start(cycle, first, state)
-    }
-
-    fn step(&self, words: &[u8], state: &mut [u8]) -> u32 {
-        Peer.step(words, state)
-    }
+    as_peer!(check, build, start, step, arrivals, gates);
 
     fn step_all(&self, words: &[u8], states: &mut [u8]) -> u32 {
         self.0(words, states)
-    }
-
-    fn arrivals(&self, image: &[u8], frame: u32, ticks: &mut [u8]) -> u64 {
-        Peer.arrivals(image, frame, ticks)
-    }
-
-    fn gates(&self, image: &[u8], link: u32, words: &mut [u8]) -> u64 {
-        Peer.gates(image, link, words)
     }
 }
 

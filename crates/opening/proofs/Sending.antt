@@ -8,7 +8,7 @@ use native.Mathlib.Decide.{decLt}
 use lib.ListN.{length, set, length-append}
 use lib.Seq.{sets}
 use Rattle.plan.specs.declared.Table.the-variants.{Frames}
-use Rattle.plan.specs.Image.{rows, shape, frame, cycleTicks}
+use Rattle.plan.specs.Image.{rows, shape, frame, cycleTicks, mostFrames}
 use Rattle.plan.specs.Questions.{answerOf, accepted, frameEnd, queueOf}
 use Rattle.plan.proofs.Sounds.{accepted-sound}
 use Rattle.gates.specs.Gates.{Gate, gate, pairs, gates, gateWords}
@@ -20,7 +20,7 @@ use Rattle.opening.specs.declared.Listing.{Listing}
 use Rattle.opening.specs.Listings.{listWords, Room, Holds, GoneOn, Sent, Walked}
 
 -- there is room again after a stretch, where there was for two gates
-pub room-after : (list : List ℕ) (at : Listing) (o u : ℕ) (after : List ℕ) (r : Listing) → Room list at → at .until ≤ u → at .count < 1024
+pub room-after : (list : List ℕ) (at : Listing) (o u : ℕ) (after : List ℕ) (r : Listing) → Room list at → at .until ≤ u → at .count < 2 * mostFrames
     → GoneOn list at o u after r → Room after r
 room-after list at o u after r room up spare g =
     record {
@@ -31,11 +31,11 @@ room-after list at o u after r room up spare g =
     }
 
 module _ (s : List ℕ) (e : answerOf s ≡ accepted) where
-  pub frames-most : rows s Frames ≤ 512
+  pub frames-most : rows s Frames ≤ mostFrames
   unfolding shape
   frames-most = accepted-sound s e .inside .counts Frames
 
-  module _ (f : ℕ) (row : f < rows s Frames) (list : List ℕ) (at : Listing) (past : Past s (frame s f .link) f (at .until)) (room : Room list at) (spare : at .count < 1024) where
+  module _ (f : ℕ) (row : f < rows s Frames) (list : List ℕ) (at : Listing) (past : Past s (frame s f .link) f (at .until)) (room : Room list at) (spare : at .count < 2 * mostFrames) where
     pub starts-later : at .until ≤ frame s f .start
     starts-later = waits s e (frame s f .link) past row refl
 
@@ -88,10 +88,10 @@ module _ (s : List ℕ) (e : answerOf s ≡ accepted) where
       count-none z = sym (w .holds .many) ∙ ap length (w .holds .goes .none z)
 
       -- two gates more have room
-      pub spare : n ≤ rows s Frames → at .count < 1024
+      pub spare : n ≤ rows s Frames → at .count < 2 * mostFrames
       spare m = go (decLt 0 (at .until))
         where
-          go : Dec (0 < at .until) → at .count < 1024
+          go : Dec (0 < at .until) → at .count < 2 * mostFrames
           go (yes z) = omega (arith, w .few z, frames-most)
           go (no z) = omega (arith, count-none (omega arith))
 
@@ -122,7 +122,7 @@ module _ (s : List ℕ) (e : answerOf s ≡ accepted) where
 
     module _ (words : length lent ≡ listWords) (list : List ℕ) (at : Listing) (w : Walked s l lent (rows s Frames) list at) (after : List ℕ) (last : Listing)
         (g : GoneOn list at 0 (cycleTicks s) after last) where
-      pub last-count : last .count ≤ 1024
+      pub last-count : last .count ≤ 2 * mostFrames
       last-count = omega (arith, g .few, spare (rows s Frames) list at w (omega arith))
 
       pub last-room : 1 + 2 * last .count + 2 ≤ length after

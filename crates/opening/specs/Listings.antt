@@ -17,7 +17,7 @@ listWords = 1 + 2 * (2 * mostFrames + 1)
 -- there is room for a gate more
 pub record Room (list : List ℕ) (at : Listing) : Type 0 where
   pub words : length list ≡ listWords
-  pub more : at .count < 1025
+  pub more : at .count < 2 * mostFrames + 1
   pub begun : at .since ≤ at .until
   pub none : at .until ≡ 0 → at .count ≡ 0
 

@@ -2,12 +2,12 @@
 // (19), so that between its frames, before the first and after the last no gate is open.
 ghost use mathlib.Core.Path.{_≡_};
 ghost use mathlib.Core.List.{_∷_, []};
-ghost use Prim.Native.Nat.{_+_, _^_, _<_, _≤_};
+ghost use Prim.Native.Nat.{_+_, _*_, _^_, _<_, _≤_};
 ghost use lib.ListN.{length};
 ghost use lib.Seq.{sets};
 ghost use Rattle.plan.specs.declared.Table.the-variants.{Frames};
 ghost use Rattle.plan.specs.Image as Image;
-ghost use Rattle.plan.specs.Image.{rows};
+ghost use Rattle.plan.specs.Image.{rows, mostFrames};
 ghost use Rattle.plan.specs.Questions.{answerOf, accepted, queueOf};
 ghost use Rattle.gates.specs.Gates.{gates, gateWords};
 ghost use Rattle.gates.specs.Walks.{Past};
@@ -97,7 +97,7 @@ fn idle_to(list: &mut [u32], at: Listing, until: u32) -> Listing
 // A frame of the link is sent.
 fn send(image: &[u8], list: &mut [u32], at: Listing, frame: u32) -> Listing
     requires { ⌜ (answerOf (now image) ≡ accepted) × (frame < rows (now image) Frames) ⌝ }
-    requires { ⌜ Past (now image) (Image.frame (now image) frame .link) frame (at .until) × Room (now list) at × (at .count < 1024) ⌝ }
+    requires { ⌜ Past (now image) (Image.frame (now image) frame .link) frame (at .until) × Room (now list) at × (at .count < 2 * mostFrames) ⌝ }
     ensures { λ r. ⌜ Sent (now (image .entry)) frame (now (list .entry)) at (now (list .exit)) r ⌝ }
 {
     let idle = idle_to(list, at, frame_at(image, frame).start);

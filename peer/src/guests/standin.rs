@@ -2,6 +2,7 @@
 //! one way.
 
 use super::faults::Fault;
+use crate::as_peer;
 use crate::boundary::{read_state, read_words, write_state, write_words, Boundary, Peer, STATE};
 use crate::charges::charges;
 use crate::check::examine;
@@ -16,9 +17,7 @@ use Fault::*;
 pub struct Standin(pub Option<Fault>);
 
 impl Boundary for Standin {
-    fn check(&self, image: &[u8]) -> u64 {
-        Peer.check(image)
-    }
+    as_peer!(check, gates, start, arrivals);
 
     fn build(&self, image: &[u8], lane: u32, words: &mut [u8]) -> u64 {
         let faults = [BuildPieceRowOneLess, BuildAllPieceRowOneLess];
@@ -37,14 +36,6 @@ impl Boundary for Standin {
             Err(answer) => answer,
             Ok(tables) => lend(&tables.concat(), words),
         }
-    }
-
-    fn gates(&self, image: &[u8], link: u32, words: &mut [u8]) -> u64 {
-        Peer.gates(image, link, words)
-    }
-
-    fn start(&self, cycle: u64, first: u32, state: &mut [u8]) -> u32 {
-        Peer.start(cycle, first, state)
     }
 
     fn step(&self, words: &[u8], state: &mut [u8]) -> u32 {
@@ -79,10 +70,6 @@ impl Boundary for Standin {
         }
         states.copy_from_slice(&moved);
         0
-    }
-
-    fn arrivals(&self, image: &[u8], frame: u32, ticks: &mut [u8]) -> u64 {
-        Peer.arrivals(image, frame, ticks)
     }
 }
 
