@@ -1,4 +1,5 @@
 // Questions 22 to 24 (paper 01, "The questions"): buffers and their holds.
+#![tactic(auto)]
 ghost use Rattle.std.specs.Prelude.{◌≡◌, ◌<◌};
 ghost use Rattle.plan.specs.declared.Table.TheVariants.{Buffers};
 ghost use Rattle.plan.specs.Image.{rows, buffer};
@@ -60,7 +61,7 @@ fn reader_waits(image: &[u8], times: &[u32], row: u32) -> bool
 }
 
 // A hold: from the writer's first start to the reader's last end.
-#[derive(Drop)]
+#[derive(Clone, Copy)]
 struct Hold {
     from: u32,
     to: u32,

@@ -1,5 +1,6 @@
 // The cases of paper 01 ("Cases"), run: each changes words of case A or of case B, which has a queue too (paper 02, request 13), and prints the answer of
 // a check; then the step cases. What is printed is compared with the paper's lines, and the queue's, in the file stdout.
+#![tactic(auto)]
 ghost use Rattle.std.specs.Prelude.{◌<◌};
 
 use libc::STDOUT_FILENO;

@@ -1,5 +1,6 @@
 // Where a walk along a lane looks (paper 01, "Dispatch"): the first row of a core or a link that has not ended at a tick, by the index of
 // places, and whether it takes up the tick.
+#![tactic(auto)]
 ghost use Rattle.std.specs.Prelude.{◌≡◌, ◌<◌};
 ghost use Rattle.plan.specs.Image.{cycle_ticks};
 ghost use Rattle.plan.specs.Held.{Sound};
@@ -14,7 +15,7 @@ use plan::Table;
 use tables::{cycle_ticks, rows_of};
 
 // Where a walk looks on: the piece and the window of a core's lane, or the frame of a link's. Those before it have ended.
-#[derive(Drop)]
+#[derive(Clone, Copy)]
 pub struct Cursors {
     pub piece: u32,
     pub window: u32,
@@ -66,7 +67,7 @@ pub fn move_on(
 }
 
 // The row that takes up a tick of a place, or a tick up to which none does.
-#[derive(Drop)]
+#[derive(Clone, Copy)]
 pub enum Near {
     Taken(u32),
     Free(u32),

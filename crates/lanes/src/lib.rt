@@ -1,5 +1,6 @@
 // Lane tables (paper 01, "Dispatch"; question 26): a lane's entries counted, and its table written into lent words. A walk goes along the
 // lane from one change to the next, and from each row of the lane's place to the next one there.
+#![tactic(auto)]
 ghost use Rattle.std.specs.Prelude.{◌≡◌, ◌∷◌, [], ◌+◌, ◌*◌, ◌<◌, ◌≤◌, length};
 ghost use Rattle.plan.specs.Image.{cycle_ticks, most_windows};
 ghost use Rattle.plan.specs.Questions.{answer_of, accepted};
@@ -37,7 +38,7 @@ pub fn gather(image: &[u8], charges: &mut [u32], index: &mut [u32])
 
 // A walk along a lane, from segment to segment. From tick `from` up to `until` the lane shows `kind` and `row`; `begins` says whether
 // an entry begins at `from`; `view` is what is known from `until` on.
-#[derive(Drop)]
+#[derive(Clone, Copy)]
 pub struct Walk {
     pub from: u32,
     pub until: u32,

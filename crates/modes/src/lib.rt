@@ -1,9 +1,10 @@
 // Modes (paper 02, request 14): what is kept of a plan that a place holds, by value, and what 43 and 44 ask of it.
+#![tactic(auto)]
 ghost use Rattle.std.specs.Prelude.{◌≡◌};
 ghost use Rattle.modes.specs.Modes.{is_plan, alike, lane_count};
 
 // H, the numbers of cores and links, and the words from `first` to before `end`, in which the tables of its lanes lie.
-#[derive(Drop)]
+#[derive(Clone, Copy)]
 pub struct HeldPlan {
     pub ticks: u32,
     pub cores: u32,

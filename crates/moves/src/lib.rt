@@ -1,5 +1,6 @@
 // One tick of a lane's state (paper 01, "Dispatch" and questions 27 and 28), from the few numbers that it looks up in its table, wherever they
 // are read. Any state and any numbers are taken; those that do not fit each other are refused.
+#![tactic(auto)]
 ghost use Rattle.std.specs.Prelude.{◌≡◌, false, ◌<◌};
 ghost use Rattle.moves.specs.Lookups.{fits_table, ends_cycle, ends_calendar, state_after, decided};
 
@@ -7,7 +8,7 @@ use plan::{LaneState, Stepped};
 
 // What a step looks up in its lane's table: whether the table lies inside the words; its cycle H and count n of entries; the
 // current entry's first tick, kind and row; and the first tick of the entry after it. A word past the end counts as 0.
-#[derive(Drop)]
+#[derive(Clone, Copy)]
 pub struct Lookup {
     pub inside: bool,
     pub ticks: u32,

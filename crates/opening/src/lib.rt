@@ -1,5 +1,6 @@
 // The gates of a link (paper 02, request 13), found in one pass over the frames: rows rise by start (question 32) and frames of one link never overlap
 // (19), so that between its frames, before the first and after the last no gate is open.
+#![tactic(auto)]
 ghost use Rattle.std.specs.Prelude.{◌≡◌, ◌∷◌, [], ◌+◌, ◌*◌, ◌^◌, ◌<◌, ◌≤◌, length};
 ghost use Rattle.std.proofs.lemmas.List.Edits.{sets};
 ghost use Rattle.plan.specs.declared.Table.TheVariants.{Frames};
@@ -18,7 +19,7 @@ use terms::{frame_end, queue_of};
 pub const WORDS: usize = 1 + 2 * (2 * Frame::MAX as usize + 1);
 
 // A list as far as it is found: so many gates are written, and then the octet is this since one tick, up to another.
-#[derive(Drop)]
+#[derive(Clone, Copy)]
 pub struct Listing {
     pub count: u32,
     pub octet: u32,

@@ -1,4 +1,6 @@
 // Question 30 (paper 02, request 3): do messages lead from a chain's first task to its last? A walk of two functions that alternate.
+#![tactic(auto)]
+
 ghost use Rattle.std.specs.Prelude.{◌≡◌, ◌<◌};
 ghost use Rattle.plan.specs.declared.Table.TheVariants.{Tasks, Chains};
 ghost use Rattle.plan.specs.Image.{rows};

@@ -1,4 +1,5 @@
 // Reading a draft (paper 02, request 6): totals of jobs and cores, and places.
+#![tactic(auto)]
 ghost use Rattle.std.specs.Prelude.{◌≡◌, not, ◌&&◌, ◌<◌, ◌≤◌, length};
 ghost use Rattle.drafts.specs.Drafts.{draft_words, places, is_of, piece_at, is_free, is_draft, holds_piece};
 ghost use Rattle.drafts.specs.Edits.{core_number, core_value, place_number, place_leaves, job_number, job_value, stored_total};
@@ -10,7 +11,7 @@ use draftwords::{
 use totals::is_draft;
 
 // The number of a reading, and the total read: 0 where it is refused.
-#[derive(Drop)]
+#[derive(Clone, Copy)]
 pub struct Total {
     pub number: u32,
     pub value: u32,

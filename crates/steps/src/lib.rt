@@ -1,5 +1,7 @@
 // The dispatcher (paper 01, "Dispatch" and questions 27 and 28): a lane's state moves one tick along its table. Any state and any
 // words are taken; those that do not fit each other are refused.
+#![tactic(auto)]
+
 ghost use Rattle.std.specs.Prelude.{◌≡◌, get_or};
 ghost use Rattle.plan.specs.Dispatch.{step, refusal, step_all};
 ghost use Rattle.moves.specs.Lookups.{lookup};

@@ -1,4 +1,5 @@
 // What a lane shows from a tick on (paper 01, "Dispatch"): one row for a while, by the rows that have not ended there.
+#![tactic(auto)]
 ghost use Rattle.std.specs.Prelude.{◌≡◌, ◌<◌};
 ghost use Rattle.plan.specs.declared.Table.TheVariants.{Pieces, Windows, Frames};
 ghost use Rattle.plan.specs.Image.{rows, cycle_ticks};
@@ -20,7 +21,7 @@ use tallies::lesser;
 use terms::{frame_end, switch_ticks};
 
 // What a lane shows for a while: one row, as kind `kind` before tick `turn` and as kind `later` from it on, up to tick `until`.
-#[derive(Drop)]
+#[derive(Clone, Copy)]
 pub struct Stretch {
     pub kind: u32,
     pub later: u32,
@@ -119,7 +120,7 @@ fn link_stretch(image: &[u8], link: u32, tick: u32, frame: u32) -> Stretch
 }
 
 // What a lane shows for a while, and where to look on afterwards.
-#[derive(Drop)]
+#[derive(Clone, Copy)]
 pub struct View {
     pub stretch: Stretch,
     pub cursors: Cursors,
@@ -207,7 +208,7 @@ pub fn go_on(
 }
 
 // One kind and one row, up to tick `until`.
-#[derive(Drop)]
+#[derive(Clone, Copy)]
 pub struct Segment {
     pub kind: u32,
     pub row: u32,

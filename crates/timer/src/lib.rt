@@ -1,10 +1,11 @@
 // The board's tick timer (paper 02, request 12): its four registers as a struct by value. Any address is taken; one that names no register
 // is refused and changes nothing.
+#![tactic(auto)]
 ghost use Rattle.std.specs.Prelude.{◌≡◌};
 ghost use Rattle.timer.specs.Registers.{fresh, minus, reached, reading, interrupts, is_register, read_number, read_value, write_number, written, bit0, bit_word};
 
 // Count, compare, bit 0 of status (the match) and bit 0 of enable; the other bits of status and enable are always 0.
-#[derive(Drop)]
+#[derive(Clone, Copy)]
 pub struct Timer {
     pub count: u32,
     pub compare: u32,
@@ -13,14 +14,14 @@ pub struct Timer {
 }
 
 // What a register read gives: its number, and the register's word, 0 where it is refused.
-#[derive(Drop)]
+#[derive(Clone, Copy)]
 pub struct Register {
     pub number: u32,
     pub value: u32,
 }
 
 // What a register write gives: its number, and the timer afterwards.
-#[derive(Drop)]
+#[derive(Clone, Copy)]
 pub struct Written {
     pub number: u32,
     pub timer: Timer,

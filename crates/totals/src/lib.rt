@@ -1,5 +1,6 @@
 // 33 (paper 02, request 6): are words a draft with true totals? A few passes over places, ranks and cores, none inside another: the pieces are
 // gathered by rank and by core.
+#![tactic(auto)]
 ghost use Rattle.std.specs.Prelude.{◌≡◌, true, ◌&&◌, ◌+◌, ◌*◌, ◌^◌, ◌<◌, ◌≤◌, length, get_or, set};
 ghost use Rattle.plan.specs.Search.{all};
 ghost use Rattle.tallies.specs.Tallies.{Kept};
@@ -13,7 +14,7 @@ use draftwords::{
 };
 
 // Ranks looked at so far: are they as they must be, how many pieces they have, and a place of the last that has one.
-#[derive(Drop)]
+#[derive(Clone, Copy)]
 pub struct Climb {
     pub ok: bool,
     pub seen: u32,

@@ -1,0 +1,13 @@
+use Prim.Native.Nat.{◌-◌, ◌≤◌}
+use mathlib.Core.Path.{sym, ap, ◌∙◌}
+use native.Mathlib.Omega.{arith}
+use Rattle.plan.specs.declared.Shape.{Shape}
+use Rattle.pairs.proofs.Rows.{inside}
+use Rattle.agreeing.proofs.Agreeing.{SameTo, same_none, same_more, same_all, differ}
+use Rattle.agreeing.proofs.row_agrees.Given as goal
+
+abbrev pub invariant-loop-j : goal.invariant-loop-j
+invariant-loop-j l = (l.j ≤ l.width) × SameTo l.first l.second l.table l.row l.j
+
+abbrev pub decreases-loop-j : goal.decreases-loop-j
+decreases-loop-j l = l.width - l.j

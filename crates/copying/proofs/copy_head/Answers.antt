@@ -1,0 +1,21 @@
+use mathlib.Core.Path.{refl}
+use native.Mathlib.Omega.{arith}
+use lib.ListN.{length-set}
+use Rattle.drafts.specs.Drafts.{draft_words}
+use borrow.Author.Rules.{rules}
+use Rattle.copying.proofs.copy_head.Goals as goal
+
+pub bounds-words-0 : goal.bounds-words-0
+unfolding draft_words
+bounds-words-0 c = omega (arith, c.requires.1)
+
+pub bounds-words-1 : goal.bounds-words-1
+unfolding draft_words
+bounds-words-1 c = rw length-set (omega (arith, c.requires.1))
+
+pub bounds-words-2 : goal.bounds-words-2
+unfolding draft_words
+bounds-words-2 c = rw (length-set, length-set) (omega (arith, c.requires.1))
+
+pub returns : goal.returns
+returns c = rw (c.cycle_ticks-cycle.ensures, c.rows_of-cores.ensures, c.rows_of-tasks.ensures) refl

@@ -1,0 +1,19 @@
+use Prim.Native.Nat.{ℕ, ◌-◌, ◌<◌, ◌≤◌}
+use mathlib.Core.Path.{◌≡◌, refl, ap, ◌∙◌, subst}
+use mathlib.Core.List.{◌∷◌, []}
+use native.Mathlib.Omega.{arith}
+use lib.ListN.{length}
+use Rattle.plan.specs.declared.Table.TheVariants.{Tasks}
+use Rattle.plan.specs.Image as Image
+use Rattle.plan.specs.Image.{rows, shape}
+use Rattle.plan.specs.Questions.{core_of}
+use Rattle.drafts.specs.Drafts.{task_at}
+use Rattle.drafts.specs.Edits.{store_rows}
+use Rattle.drafts.proofs.Storing.{length_rows, rows_turn}
+use Rattle.copying.proofs.copy_tasks.Given as goal
+
+abbrev pub invariant-loop-task : goal.invariant-loop-task
+invariant-loop-task l = (l.tasks ≡ rows l.image Tasks) × (l.task ≤ l.tasks) × (l.words ≡ store_rows task_at (λ x. core_of l.image x ∷ (Image.task l.image x).period ∷ (Image.task l.image x).deadline ∷ []) l.task l.initial.words)
+
+abbrev pub decreases-loop-task : goal.decreases-loop-task
+decreases-loop-task l = l.tasks - l.task

@@ -1,0 +1,12 @@
+use native.Mathlib.Omega.{arith}
+use Rattle.drafts.specs.Drafts.{draft_words, core_at, core_total}
+use borrow.Author.Rules.{rules}
+use Rattle.draftwords.proofs.core_total.Goals as goal
+
+pub bounds-words-core : goal.bounds-words-core
+unfolding draft_words
+bounds-words-core c = omega arith
+
+pub returns : goal.returns
+unfolding core_total core_at
+returns c = cc

@@ -1,0 +1,12 @@
+use native.Mathlib.Omega.{arith}
+use Rattle.drafts.specs.Drafts.{draft_words, task_at, task_core}
+use borrow.Author.Rules.{rules}
+use Rattle.draftwords.proofs.task_core.Goals as goal
+
+pub bounds-words-task : goal.bounds-words-task
+unfolding draft_words
+bounds-words-task c = omega arith
+
+pub returns : goal.returns
+unfolding task_core task_at
+returns c = cc

@@ -1,0 +1,32 @@
+use native.Mathlib.Omega.{arith}
+use Rattle.jobs.proofs.Gathering.{place_inside, first_read}
+use borrow.Author.Rules.{rules}
+use Rattle.jobs.proofs.first_start.Goals as goal
+
+-- src/lib.rt:179:17
+pub bounds-times-task : goal.bounds-times-task
+bounds-times-task c = let p = c.requires in let z = p.0.placed.size in let t = p.0.few in omega (arith, p.1.0)
+
+-- src/lib.rt:179:17
+pub overflow_cast-place-2 : goal.overflow_cast-place-2
+overflow_cast-place-2 c = let a = c.args in let p = c.requires in let z = p.0.placed.size in omega (arith, place_inside a.image.now a.times.now p.0 a.task a.job p.1.0 p.1.1)
+
+-- src/lib.rt:179:17
+pub overflow_add-place : goal.overflow_add-place
+overflow_add-place c = let a = c.args in let p = c.requires in let z = p.0.placed.size in omega (arith, place_inside a.image.now a.times.now p.0 a.task a.job p.1.0 p.1.1)
+
+-- src/lib.rt:180:11
+pub overflow_add-result : goal.overflow_add-result
+overflow_add-result c = let a = c.args in let p = c.requires in let z = p.0.placed.size in omega (arith, place_inside a.image.now a.times.now p.0 a.task a.job p.1.0 p.1.1)
+
+-- src/lib.rt:180:5
+pub offset_bounds-times-place : goal.offset_bounds-times-place
+offset_bounds-times-place c = let a = c.args in let p = c.requires in let z = p.0.placed.size in omega (arith, place_inside a.image.now a.times.now p.0 a.task a.job p.1.0 p.1.1)
+
+-- src/lib.rt:180:5
+pub bounds-times-place : goal.bounds-times-place
+bounds-times-place c = let a = c.args in let p = c.requires in let z = p.0.placed.size in omega (arith, place_inside a.image.now a.times.now p.0 a.task a.job p.1.0 p.1.1)
+
+-- src/lib.rt:175:1
+pub returns : goal.returns
+returns c = let a = c.args in let p = c.requires in first_read a.image.now a.times.now p.0 a.task a.job p.1.0 p.1.1

@@ -1,0 +1,14 @@
+use Prim.Native.Nat.{◌-◌, ◌≤◌}
+use mathlib.Core.Path.{◌≡◌, refl, subst, ◌∙◌}
+use native.Mathlib.Omega.{arith}
+use lib.ListN.{length}
+use Rattle.plan.specs.declared.Table.TheVariants.{Pieces}
+use Rattle.plan.specs.Image.{rows}
+use Rattle.jobs.specs.Times.{Gathered}
+use Rattle.jobs.proofs.take_all.Given as goal
+
+abbrev pub invariant-loop-piece : goal.invariant-loop-piece
+invariant-loop-piece l = (l.piece ≤ l.pieces) × (length l.times ≡ length l.initial.times) × Gathered l.image l.times l.piece
+
+abbrev pub decreases-loop-piece : goal.decreases-loop-piece
+decreases-loop-piece l = l.pieces - l.piece

@@ -1,0 +1,8 @@
+use mathlib.Core.Path.{refl}
+use Rattle.moves.specs.Lookups.{fits_table}
+use borrow.Author.Rules.{rules}
+use Rattle.moves.proofs.fits_table.Goals as goal
+
+pub returns : goal.returns
+unfolding fits_table
+returns c = refl

@@ -1,0 +1,15 @@
+use Prim.Native.Nat.{ℕ, ◌-◌, ◌≤◌}
+use mathlib.Core.Path.{◌≡◌, subst}
+use native.Mathlib.Omega.{arith}
+use Rattle.plan.specs.declared.Table.TheVariants.{Frames}
+use Rattle.plan.specs.Image.{rows}
+use Rattle.plan.proofs.Sounds.{accepted_sound}
+use Rattle.opening.specs.Listings.{Walked}
+use Rattle.opening.proofs.Sending.{walked_none}
+use Rattle.opening.proofs.send_all.Given as goal
+
+abbrev pub invariant-loop-frame : goal.invariant-loop-frame
+invariant-loop-frame l = (l.frame ≤ l.frames) × (l.frames ≡ rows l.image Frames) × Walked l.image l.link l.initial.list l.frame l.list l.at
+
+abbrev pub decreases-loop-frame : goal.decreases-loop-frame
+decreases-loop-frame l = l.frames - l.frame

@@ -1,0 +1,9 @@
+use mathlib.Core.Path.{refl}
+use Rattle.plan.specs.Questions.{queue_fits}
+use borrow.Author.Rules.{rules}
+use Rattle.ranges.proofs.queue_fits.Goals as goal
+
+-- src/lib.rt:102:1
+pub returns : goal.returns
+unfolding queue_fits
+returns c = rw c.stream_at.ensures refl

@@ -1,0 +1,29 @@
+use mathlib.Core.Path.{refl}
+use native.Mathlib.Omega.{arith}
+use Rattle.plan.specs.Image.{shape, piece}
+use Rattle.tables.proofs.piece_at.Goals as goal
+
+-- src/lib.rt:193:19
+pub field_of-requires : goal.field_of-requires
+unfolding shape
+field_of-requires c = let p = c.requires in record { in_image = p.in_image; row_bound = (p.row_bound, omega arith); }
+
+-- src/lib.rt:194:18
+pub field_of-requires-2 : goal.field_of-requires-2
+unfolding shape
+field_of-requires-2 c = let p = c.requires in record { in_image = p.in_image; row_bound = (p.row_bound, omega arith); }
+
+-- src/lib.rt:195:20
+pub field_of-requires-3 : goal.field_of-requires-3
+unfolding shape
+field_of-requires-3 c = let p = c.requires in record { in_image = p.in_image; row_bound = (p.row_bound, omega arith); }
+
+-- src/lib.rt:196:21
+pub field_of-requires-4 : goal.field_of-requires-4
+unfolding shape
+field_of-requires-4 c = let p = c.requires in record { in_image = p.in_image; row_bound = (p.row_bound, omega arith); }
+
+-- src/lib.rt:187:5
+pub returns : goal.returns
+unfolding piece
+returns c = rw (c.field_of-4.ensures, c.field_of-3.ensures, c.field_of-2.ensures, c.field_of.ensures) refl

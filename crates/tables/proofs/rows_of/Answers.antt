@@ -1,0 +1,17 @@
+use mathlib.Core.Path.{ap, ◌∙◌}
+use native.Mathlib.Omega.{arith}
+use Rattle.plan.specs.declared.Shape.{Shape}
+use Rattle.plan.specs.Image.{word_at, trailer_bytes, tables, rows}
+use Rattle.tables.proofs.Shapes.{number_most}
+use borrow.Author.Rules.{rules}
+use Rattle.tables.proofs.rows_of.Goals as goal
+
+-- src/lib.rt:266:5
+pub trailer_word-requires : goal.trailer_word-requires
+unfolding trailer_bytes tables
+trailer_word-requires c = (omega (arith, number_most c.args.table, ap (λ (x : Shape). x.number) c.shape_of-number.ensures), c.requires)
+
+-- src/lib.rt:261:1
+pub returns : goal.returns
+unfolding rows
+returns c = let s = c.args.image.now in c.trailer_word.ensures ∙ ap (word_at s) (let e = ap (λ (x : Shape). x.number) c.shape_of-number.ensures in omega arith)

@@ -1,0 +1,7 @@
+use mathlib.Core.Path.{refl}
+use borrow.Author.Rules.{rules}
+use Rattle.tallies.proofs.raise.Goals as goal
+
+-- src/lib.rt:13:1
+pub returns : goal.returns
+returns c = rw c.greater_wide.ensures refl

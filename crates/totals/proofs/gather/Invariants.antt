@@ -1,0 +1,13 @@
+use Prim.Native.Nat.{ℕ, ◌-◌, ◌≤◌}
+use mathlib.Core.Path.{◌≡◌, sym, subst, ◌∙◌}
+use native.Mathlib.Omega.{arith}
+use Rattle.drafts.specs.Drafts.{places}
+use Rattle.totals.specs.Gathers.{Gathered}
+use Rattle.totals.proofs.Gathering.{gathered_none}
+use Rattle.totals.proofs.gather.Given as goal
+
+abbrev pub invariant-loop-place : goal.invariant-loop-place
+invariant-loop-place l = (l.place ≤ 2048) × Gathered l.words l.gathered l.place
+
+abbrev pub decreases-loop-place : goal.decreases-loop-place
+decreases-loop-place l = 2048 - l.place

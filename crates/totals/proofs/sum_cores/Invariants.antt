@@ -1,0 +1,13 @@
+use Prim.Native.Nat.{ℕ, ◌-◌, ◌≤◌}
+use mathlib.Core.Path.{◌≡◌, sym, subst, ◌∙◌}
+use native.Mathlib.Omega.{arith}
+use Rattle.drafts.specs.Drafts.{places}
+use Rattle.totals.specs.Gathers.{CoreSums}
+use Rattle.totals.proofs.Gathering.{summed_none}
+use Rattle.totals.proofs.sum_cores.Given as goal
+
+abbrev pub invariant-loop-place : goal.invariant-loop-place
+invariant-loop-place l = (l.place ≤ 2048) × CoreSums l.words l.sums l.place
+
+abbrev pub decreases-loop-place : goal.decreases-loop-place
+decreases-loop-place l = 2048 - l.place

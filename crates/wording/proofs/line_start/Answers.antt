@@ -1,0 +1,27 @@
+use Prim.Native.Nat.{ℕ, suc, ◌+◌, ◌-◌, ◌≤◌}
+use mathlib.Core.Path.{◌≡◌, refl, sym, ap, ◌∙◌}
+use mathlib.Core.Logic.{⊎_elim}
+use native.Mathlib.Omega.{arith}
+use lib.ListN.{length, drop}
+use borrow.Author.Rules.{rules}
+use Rattle.texts.specs.Characters.{lines_from}
+use Rattle.wording.proofs.Texts.{from_zero, one_line_fewer, same_lines, none_left}
+use Rattle.wording.proofs.line_start.Goals as goal
+
+pub loop-at-init : goal.loop-at-init
+loop-at-init c = (omega arith, refl)
+
+pub returns-then-left-eq0 : goal.returns-then-left-eq0
+returns-then-left-eq0 c = let l = c.loop-at in let text = c.args.text.now in (l.invariant.0, sym (from_zero (drop l.at text)) ∙ ap (λ (k : ℕ). lines_from k (drop l.at text)) (sym c.if-left-eq0.true) ∙ l.invariant.1)
+
+pub overflow_sub-left : goal.overflow_sub-left
+overflow_sub-left c = omega arith
+
+pub loop-at-smaller : goal.loop-at-smaller
+loop-at-smaller c = omega arith
+
+pub loop-at-preserved : goal.loop-at-preserved
+loop-at-preserved c = ?
+
+pub returns : goal.returns
+returns c = let l = c.loop-at in let text = c.args.text.now in let e : l.at ≡ length text = omega (arith, l.invariant.0) in (l.invariant.0, sym (none_left text l.at e l.left) ∙ l.invariant.1)
