@@ -1,5 +1,6 @@
 // Where two accepted plans agree (paper 02, request 10): questions 35 and 36.
 #![tactic(auto)]
+
 ghost use Rattle.std.specs.Prelude.{◌≡◌, ◌≤◌, ◌<◌};
 ghost use Rattle.plan.specs.Image.{rows};
 ghost use Rattle.joins.specs.Joins.{row_words, same_words, agree_to, agree, plans_agree, tasks_shared};

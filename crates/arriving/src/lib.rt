@@ -1,6 +1,7 @@
 // When a frame arrives, by its sending node's clock (paper 02, request 7): the check, then the row, then its earliest and its latest tick; as a
 // value, and as two words in lent bytes.
 #![tactic(auto)]
+
 ghost use Rattle.std.specs.Prelude.{◌≡◌, ◌<◌};
 ghost use Rattle.plan.specs.declared.Table.TheVariants.{Frames};
 ghost use Rattle.plan.specs.Image.{rows};

@@ -1,5 +1,6 @@
 // Question 13 (paper 01, "The questions"): does the work of every job sum to its task's budget? By the times that crate jobs gathers.
 #![tactic(auto)]
+
 ghost use Rattle.std.specs.Prelude.{◌≡◌, ◌<◌};
 ghost use Rattle.plan.specs.declared.Table.TheVariants.{Tasks};
 ghost use Rattle.plan.specs.Image.{rows};

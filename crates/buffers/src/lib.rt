@@ -1,5 +1,6 @@
 // Questions 22 to 24 (paper 01, "The questions"): buffers and their holds.
 #![tactic(auto)]
+
 ghost use Rattle.std.specs.Prelude.{◌≡◌, ◌<◌};
 ghost use Rattle.plan.specs.declared.Table.TheVariants.{Buffers};
 ghost use Rattle.plan.specs.Image.{rows, buffer};

@@ -1,5 +1,6 @@
 // Table building (paper 01, "Dispatch"; questions 25 and 26): the check, then the lane, then its table into lent words.
 #![tactic(auto)]
+
 ghost use Rattle.lanes.specs.Words.{Filled};
 
 use lanes::lane_count;

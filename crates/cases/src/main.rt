@@ -1,10 +1,13 @@
 // The cases of paper 01 ("Cases"), run: each changes words of case A or of case B, which has a queue too (paper 02, request 13), and prints the answer of
 // a check; then the step cases. What is printed is compared with the paper's lines, and the queue's, in the file stdout.
 #![tactic(auto)]
+
 ghost use Rattle.std.specs.Prelude.{◌<◌};
 
-use libc::STDOUT_FILENO;
 use plan::LaneState;
+
+// Standard output.
+const STDOUT: i32 = 1;
 
 // Case A, as words.
 const CASE_A: [u32; 39] = [
@@ -50,9 +53,9 @@ const B_CHANGES: [u32; 16] = [
 const TABLE_A: [u32; 14] = [10, 4, 0, 1, 0, 2, 3, 0, 3, 4, 0, 6, 2, 0];
 
 fn print_number(n: u64, end: u8) {
-    io::print_decimal(STDOUT_FILENO, n);
+    io::print_decimal(STDOUT, n);
     let ends = [end];
-    io::write_all(STDOUT_FILENO, &ends);
+    io::write_all(STDOUT, &ends);
 }
 
 // Checks an image and prints the answer.

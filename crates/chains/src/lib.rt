@@ -1,5 +1,6 @@
 // Questions 29 to 31 (paper 02, request 3): chains over several messages.
 #![tactic(auto)]
+
 ghost use Rattle.std.specs.Prelude.{◌≡◌, ◌<◌};
 ghost use Rattle.plan.specs.declared.Table.TheVariants.{Chains};
 ghost use Rattle.plan.specs.Image as Image;

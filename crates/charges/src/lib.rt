@@ -1,6 +1,7 @@
 // The charge of every window (paper 02, request 1), found once and kept: questions 7 and 11 and the tables of the cores' lanes ask
 // for it again and again.
 #![tactic(auto)]
+
 ghost use Rattle.std.specs.Prelude.{◌≡◌, ◌<◌, length};
 ghost use Rattle.plan.specs.declared.Table.TheVariants.{Windows};
 ghost use Rattle.plan.specs.Image.{rows, most_vcpus, most_windows};

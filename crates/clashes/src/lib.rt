@@ -1,6 +1,7 @@
 // Questions 8, 12 and 19 (paper 01, "The questions"): windows and pieces of one core, and frames of one link, that share a tick. Rows
 // rise by start (question 32), so a row overlaps a lower one of its place exactly if it begins before the latest end there.
 #![tactic(auto)]
+
 ghost use Rattle.std.specs.Prelude.{◌≡◌};
 ghost use Rattle.plan.specs.Image.{rows};
 ghost use Rattle.plan.specs.Search.{first_no};

@@ -1,5 +1,6 @@
 // The joined image (paper 02, request 10), counted and then written into lent bytes: the rows that are picked, table by table, and the trailer.
 #![tactic(auto)]
+
 ghost use Rattle.std.specs.Prelude.{◌≡◌, true, ℕ, ◌+◌, ◌*◌, ◌^◌, ◌≤◌, ◌<◌, length, get_or, drop};
 ghost use mathlib.Core.List.{◌++◌, flat_map};
 ghost use Rattle.plan.specs.declared.Table.TheVariants.{Tasks, Streams};

@@ -1,5 +1,6 @@
 // Making a draft (paper 02, request 6), its first half: H, counts, cores, tasks and pieces of an image copied into lent words.
 #![tactic(auto)]
+
 ghost use Rattle.std.specs.Prelude.{◌≡◌, ◌∷◌, [], ◌<◌, ◌≤◌, length};
 ghost use Rattle.std.proofs.lemmas.List.Edits.{sets};
 ghost use Rattle.plan.specs.declared.Table.TheVariants.{Cores, Tasks};

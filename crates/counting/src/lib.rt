@@ -1,5 +1,6 @@
 // One piece more or less (paper 02, request 6): what it gives to the ranks and totals of all others and to its core's, in one pass.
 #![tactic(auto)]
+
 ghost use Rattle.std.specs.Prelude.{◌≡◌, false, not, ◌&&◌, cond, ◌+◌, ◌^◌, ◌<◌, ◌≤◌, length, set};
 ghost use Rattle.std.proofs.lemmas.List.Edits.{sets};
 ghost use Rattle.drafts.specs.Drafts.{draft_words, places, core_at, place_at, is_below, core_total, piece_at, is_free, rank};

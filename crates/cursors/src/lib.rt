@@ -1,6 +1,7 @@
 // Where a walk along a lane looks (paper 01, "Dispatch"): the first row of a core or a link that has not ended at a tick, by the index of
 // places, and whether it takes up the tick.
 #![tactic(auto)]
+
 ghost use Rattle.std.specs.Prelude.{◌≡◌, ◌<◌};
 ghost use Rattle.plan.specs.Image.{cycle_ticks};
 ghost use Rattle.plan.specs.Held.{Sound};

@@ -1,5 +1,6 @@
 // The words of a draft (paper 02, request 6), read and stored one by one, and questions 5 and 10 of a piece by itself.
 #![tactic(auto)]
+
 ghost use Rattle.std.specs.Prelude.{◌≡◌, ◌∷◌, [], ◌+◌, ◌^◌, ◌<◌, ◌≤◌, length, set};
 ghost use Rattle.std.proofs.lemmas.List.Edits.{sets};
 ghost use Rattle.drafts.specs.Drafts.{draft_words, places, core_at, place_at, draft_cycle, draft_tasks, draft_cores, core_switch, task_core, task_period, task_deadline, piece_at, rank_at, total_at, core_total, is_free, has_task, fits_job};

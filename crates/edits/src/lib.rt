@@ -1,5 +1,6 @@
 // Editing a draft (paper 02, request 6): pieces moved, added and removed.
 #![tactic(auto)]
+
 ghost use Rattle.std.specs.Prelude.{◌≡◌, ◌&&◌, ◌+◌, ◌<◌, ◌≤◌, length, set, ltb};
 ghost use Rattle.drafts.specs.Drafts.{draft_words, places, place_at, is_free};
 ghost use Rattle.drafts.specs.Edits.{put_at, freed_at, add_number, add_words, remove_number, remove_words, move_number, move_words};

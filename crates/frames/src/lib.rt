@@ -1,6 +1,7 @@
 // The frames of every stream's job at every hop, gathered in one pass over the frames into words that the caller lends
 // (specs/Index.antt says where each stands), and question 16 (paper 01, "The questions"), which is asked of these.
 #![tactic(auto)]
+
 ghost use Rattle.std.specs.Prelude.{◌≡◌, ◌+◌, ◌<◌, ◌≤◌, min, length, get_or, replicate};
 ghost use Rattle.plan.specs.declared.Table.TheVariants.{Streams, Frames};
 ghost use Rattle.plan.specs.Image.{rows, most_frames};

@@ -1,6 +1,7 @@
 // Gate lists (paper 02, request 13; questions 25 and 42): the check, then the link, then its list into lent words, or as little-endian words into lent
 // bytes. The list is found first, into words of our own: whether those lent suffice is known only then.
 #![tactic(auto)]
+
 ghost use Rattle.std.specs.Prelude.{◌≡◌, ◌*◌, ◌≤◌, length, take};
 ghost use Rattle.std.proofs.lemmas.List.Edits.{sets};
 ghost use Rattle.gates.specs.Gates.{gate_answer, gated, gate_bytes};

@@ -1,6 +1,7 @@
 // Question 11 (paper 01, "The questions"): does each piece lie in a window of its VCPU, after the window's charge? Windows and pieces rise by
 // start (question 32), so that one walk over the windows serves all pieces: the window is the last one of the VCPU to begin.
 #![tactic(auto)]
+
 ghost use Rattle.std.specs.Prelude.{◌≡◌, ◌<◌, ◌≤◌};
 ghost use Rattle.plan.specs.declared.Table.TheVariants.{Windows, Pieces};
 ghost use Rattle.plan.specs.Image.{rows, piece, most_vcpus};

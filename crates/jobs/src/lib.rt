@@ -1,6 +1,7 @@
 // The first start, the last end and the work of every job (paper 01, "The plan image"), gathered in one pass over the pieces into words
 // that the caller lends (specs/Times.antt says where each stands).
 #![tactic(auto)]
+
 ghost use Rattle.std.specs.Prelude.{◌≡◌, ◌+◌, ◌^◌, ◌<◌, min, max, length, get_or};
 ghost use Rattle.plan.specs.declared.Table.TheVariants.{Tasks, Pieces};
 ghost use Rattle.plan.specs.Image.{rows, cycle_ticks, most_pieces};

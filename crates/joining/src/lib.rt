@@ -1,5 +1,6 @@
 // One plan for two modes (paper 02, request 10): both inputs and 35 to 37 are asked, then the joined image is written, and it is checked.
 #![tactic(auto)]
+
 ghost use Rattle.std.specs.Prelude.{◌≡◌, length};
 ghost use Rattle.joins.specs.Joins.{join_answer, join_length, join_bytes};
 

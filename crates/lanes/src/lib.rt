@@ -1,6 +1,7 @@
 // Lane tables (paper 01, "Dispatch"; question 26): a lane's entries counted, and its table written into lent words. A walk goes along the
 // lane from one change to the next, and from each row of the lane's place to the next one there.
 #![tactic(auto)]
+
 ghost use Rattle.std.specs.Prelude.{◌≡◌, ◌∷◌, [], ◌+◌, ◌*◌, ◌<◌, ◌≤◌, length};
 ghost use Rattle.plan.specs.Image.{cycle_ticks, most_windows};
 ghost use Rattle.plan.specs.Questions.{answer_of, accepted};

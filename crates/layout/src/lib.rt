@@ -1,5 +1,6 @@
 // Questions 1 to 4 (paper 01, "The questions"): the image as a whole.
 #![tactic(auto)]
+
 ghost use Rattle.std.specs.Prelude.{◌≡◌, ◌≤◌, ◌-◌, length, eqb};
 ghost use Rattle.plan.specs.Image.{tables, trailer_bytes, word_at};
 ghost use Rattle.plan.specs.Questions.{laid, image_questions, answer_to};

@@ -1,5 +1,6 @@
 // Numbers and lines of numbers (paper 01, "Cases") put into lent bytes, as far as these reach; the place after them is given either way.
 #![tactic(auto)]
+
 ghost use Rattle.std.specs.Prelude.{◌≡◌, ◌^◌, ◌≤◌, set};
 ghost use Rattle.texts.specs.Characters.{decimal};
 ghost use Rattle.texts.specs.Printed.{ended, answer_line, entry_line};

@@ -1,5 +1,6 @@
 // Making a draft of an image (paper 02, request 6).
 #![tactic(auto)]
+
 ghost use Rattle.std.specs.Prelude.{◌≡◌, ◌++◌, take};
 ghost use Rattle.plan.specs.Questions.{image_questions, row_questions, piece_questions, answer_to};
 ghost use Rattle.drafts.specs.Edits.{make_number, make_words};

@@ -1,6 +1,7 @@
 // Questions 14, 15, 17, 18, 20 and 21 (paper 01, "The questions"), each of one stream, frame or job; and when a frame's stay begins, for 41 (paper 02,
 // request 13).
 #![tactic(auto)]
+
 ghost use Rattle.std.specs.Prelude.{◌≡◌, ◌<◌};
 ghost use Rattle.plan.specs.declared.Table.TheVariants.{Streams, Frames};
 ghost use Rattle.plan.specs.Image.{rows};

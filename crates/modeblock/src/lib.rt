@@ -2,6 +2,7 @@
 // far, and what is kept of the plan at each of eight places; over it, holding a plan, a start, a request and a step of all lanes. A block of
 // another length is refused with 27 and stays as it was.
 #![tactic(auto)]
+
 ghost use Rattle.std.specs.Prelude.{◌≡◌, ◌&&◌, cond, ◌∷◌, [], ◌+◌, ◌*◌, ◌≤◌, ◌<◌, length, replicate, eqb, ltb};
 ghost use Rattle.plan.specs.Questions.{answer_of, accepted};
 ghost use Rattle.plan.specs.Image.{word_at};

@@ -1,5 +1,6 @@
 // Modes (paper 02, request 14): what is kept of a plan that a place holds, by value, and what 43 and 44 ask of it.
 #![tactic(auto)]
+
 ghost use Rattle.std.specs.Prelude.{◌≡◌};
 ghost use Rattle.modes.specs.Modes.{is_plan, alike, lane_count};
 

@@ -1,6 +1,7 @@
 // One tick of a lane's state (paper 01, "Dispatch" and questions 27 and 28), from the few numbers that it looks up in its table, wherever they
 // are read. Any state and any numbers are taken; those that do not fit each other are refused.
 #![tactic(auto)]
+
 ghost use Rattle.std.specs.Prelude.{◌≡◌, false, ◌<◌};
 ghost use Rattle.moves.specs.Lookups.{fits_table, ends_cycle, ends_calendar, state_after, decided};
 

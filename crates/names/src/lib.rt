@@ -1,5 +1,6 @@
 // Question 5 (paper 01, "The questions"): the row numbers of a row name rows.
 #![tactic(auto)]
+
 ghost use Rattle.std.specs.Prelude.{◌≡◌, ◌<◌};
 ghost use Rattle.plan.specs.declared.Table.TheVariants.{Streams, Frames, Buffers};
 ghost use Rattle.plan.specs.Image.{rows};

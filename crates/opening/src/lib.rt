@@ -1,6 +1,7 @@
 // The gates of a link (paper 02, request 13), found in one pass over the frames: rows rise by start (question 32) and frames of one link never overlap
 // (19), so that between its frames, before the first and after the last no gate is open.
 #![tactic(auto)]
+
 ghost use Rattle.std.specs.Prelude.{◌≡◌, ◌∷◌, [], ◌+◌, ◌*◌, ◌^◌, ◌<◌, ◌≤◌, length};
 ghost use Rattle.std.proofs.lemmas.List.Edits.{sets};
 ghost use Rattle.plan.specs.declared.Table.TheVariants.{Frames};

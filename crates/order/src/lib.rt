@@ -1,5 +1,6 @@
 // Question 32 (paper 02, request 5): a row is not below its predecessor.
 #![tactic(auto)]
+
 ghost use Rattle.std.specs.Prelude.{◌≡◌, ◌<◌, ◌≤◌, ◌-◌, eqb, ltb, ◌&&◌, ◌||◌};
 ghost use Rattle.plan.specs.declared.Table.TheVariants.{Windows, Pieces, Frames};
 ghost use Rattle.plan.specs.Image.{rows};

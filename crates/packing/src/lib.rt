@@ -1,5 +1,6 @@
 // An answer in one number, as the C boundary gives it (paper 01, "What the product covers").
 #![tactic(auto)]
+
 ghost use Rattle.std.specs.Prelude.{◌≡◌, ◌<◌};
 ghost use Rattle.plan.specs.Boundary.{answer_number};
 

@@ -1,5 +1,6 @@
 // Questions 7, 9 and 10 (paper 01, "The questions"), each of one window, task or piece.
 #![tactic(auto)]
+
 ghost use Rattle.std.specs.Prelude.{◌≡◌, ◌<◌};
 ghost use Rattle.plan.specs.declared.Table.TheVariants.{Tasks, Windows, Pieces};
 ghost use Rattle.plan.specs.Image.{rows};

@@ -1,6 +1,7 @@
 // The rows of each place in order: pieces and windows of each core, frames of each link. An index, gathered once into words that the
 // caller lends (specs/Index.antt says where each stands), leads from a place to its lowest row and from a row to the next one there.
 #![tactic(auto)]
+
 ghost use Rattle.std.specs.Prelude.{◌≡◌, suc, ◌+◌, ◌<◌, ◌≤◌, length};
 ghost use Rattle.plan.specs.Image.{rows, most_pieces};
 ghost use Rattle.plan.specs.Held.{Sound};

@@ -1,5 +1,6 @@
 // The check (paper 01, "The questions"): every question over all its rows before the next.
 #![tactic(auto)]
+
 ghost use Rattle.std.specs.Prelude.{◌≡◌, ◌+◌, ◌++◌};
 ghost use Rattle.plan.specs.Questions.{plan_questions, piece_questions, stream_questions, buffer_questions, chain_questions, answer_to, answer_of};
 ghost use Rattle.plan.specs.Held.{Sound, Queued, Passed};

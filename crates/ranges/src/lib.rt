@@ -1,5 +1,6 @@
 // Question 6 (paper 01, "The questions"): the values of a row are in range; and 40 (paper 02, request 13), a stream's queue is.
 #![tactic(auto)]
+
 ghost use Rattle.std.specs.Prelude.{◌≡◌, ◌<◌};
 ghost use Rattle.plan.specs.declared.Table.TheVariants.{Cores, Tasks, Links, Streams, Buffers};
 ghost use Rattle.plan.specs.Image.{rows};

@@ -1,5 +1,6 @@
 // Reading a draft (paper 02, request 6): totals of jobs and cores, and places.
 #![tactic(auto)]
+
 ghost use Rattle.std.specs.Prelude.{◌≡◌, not, ◌&&◌, ◌<◌, ◌≤◌, length};
 ghost use Rattle.drafts.specs.Drafts.{draft_words, places, is_of, piece_at, is_free, is_draft, holds_piece};
 ghost use Rattle.drafts.specs.Edits.{core_number, core_value, place_number, place_leaves, job_number, job_value, stored_total};

@@ -1,6 +1,7 @@
 // The C boundary (paper 01, "What the product covers"): what the load tool calls, over numbers and bytes, and what a planner's tool calls, over
 // words. Any bytes and words are taken; include/reaperdecade.h declares the functions for C.
 #![tactic(auto)]
+
 ghost use Rattle.std.specs.Prelude.{◌≡◌, ◌+◌, ◌*◌, ◌^◌};
 ghost use Rattle.plan.specs.Boundary.{check_number, build_number, build_bytes, start_number, start_bytes, step_number, step_bytes, step_all_number, step_all_bytes};
 ghost use Rattle.writing.specs.AllTables.{all_number, all_bytes};

@@ -1,6 +1,7 @@
 // Questions 5 and 6 (paper 01, "The questions") and 32 (paper 02, request 5): one loop over the rows of all tables. Question 40 (request 13): one
 // over the streams.
 #![tactic(auto)]
+
 ghost use Rattle.std.specs.Prelude.{◌≡◌, ◌<◌};
 ghost use Rattle.plan.specs.Image.{tables, rows};
 ghost use Rattle.plan.specs.declared.Table.TheVariants.{Streams};

@@ -1,5 +1,6 @@
 // A lane's state as a record of 28 bytes (paper 01, "What the product covers"), read and written.
 #![tactic(auto)]
+
 ghost use Rattle.std.specs.Prelude.{◌≡◌, length};
 ghost use Rattle.plan.specs.Boundary.{state_of, state_bytes};
 

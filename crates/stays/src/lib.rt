@@ -1,6 +1,7 @@
 // Question 41 (paper 02, request 13): stays in one queue of a link that share a tick. A stay begins no later than its frame, and frames rise by start
 // (question 32), so a stay overlaps that of a lower frame of its queue exactly if it begins before the latest end there.
 #![tactic(auto)]
+
 ghost use Rattle.std.specs.Prelude.{◌≡◌, ◌<◌};
 ghost use Rattle.plan.specs.declared.Table.TheVariants.{Frames};
 ghost use Rattle.plan.specs.Image.{rows};

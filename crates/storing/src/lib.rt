@@ -1,6 +1,7 @@
 // Table building into lent bytes (paper 01, "What the product covers" and "Dispatch"; questions 25 and 26): the check, then the lane, then its
 // table as little-endian words; or the tables of all lanes.
 #![tactic(auto)]
+
 ghost use Rattle.writing.specs.Stored.{Built};
 ghost use Rattle.writing.specs.AllTables.{BuiltAll};
 

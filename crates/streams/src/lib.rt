@@ -1,5 +1,6 @@
 // Questions 14 to 21 (paper 01, "The questions") and 41 (paper 02, request 13): streams and frames.
 #![tactic(auto)]
+
 ghost use Rattle.std.specs.Prelude.{◌≡◌, ◌<◌, ◌≤◌};
 ghost use Rattle.plan.specs.declared.Table.TheVariants.{Streams, Frames};
 ghost use Rattle.plan.specs.Image.{rows};

@@ -1,5 +1,6 @@
 // What a lane shows from a tick on (paper 01, "Dispatch"): one row for a while, by the rows that have not ended there.
 #![tactic(auto)]
+
 ghost use Rattle.std.specs.Prelude.{◌≡◌, ◌<◌};
 ghost use Rattle.plan.specs.declared.Table.TheVariants.{Pieces, Windows, Frames};
 ghost use Rattle.plan.specs.Image.{rows, cycle_ticks};

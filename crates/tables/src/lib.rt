@@ -1,6 +1,7 @@
 // The bytes of a plan image (paper 01, "The plan image"): its words, its trailer, its tables as parts of the caller's bytes, and
 // their rows.
 #![tactic(auto)]
+
 ghost use Rattle.std.specs.Prelude.{◌≡◌, ◌+◌, ◌*◌, ◌≤◌, ◌<◌, length};
 ghost use Rattle.plan.specs.declared.Table.TheVariants.{Cores, Vcpus, Tasks, Windows, Pieces, Links, Streams, Frames, Buffers, Chains};
 ghost use Rattle.plan.specs.Image.{word_at, shape, trailer_bytes, trailer_at, cycle_ticks, precision, offset, rows, table_end, part, field};

@@ -1,5 +1,6 @@
 // Tallies: a word for each place (a core, a link, a VCPU), brought up to date row by row.
 #![tactic(auto)]
+
 ghost use Rattle.std.specs.Prelude.{◌≡◌, ◌<◌, min, max, length, get_or, set};
 
 pub fn lesser(a: u32, b: u32) -> u32

@@ -1,6 +1,7 @@
 // The words of the plan paper: what its questions say of a task, a window, a piece, a stream and a frame, read off the image.
 // Each gives what the definition of that name gives (Questions.antt), for an image that has passed questions 1 to 6 and 32.
 #![tactic(auto)]
+
 ghost use Rattle.std.specs.Prelude.{◌≡◌, ◌<◌, ◌≤◌};
 ghost use Rattle.plan.specs.declared.Table.TheVariants.{Tasks, Windows, Pieces, Streams, Frames};
 ghost use Rattle.plan.specs.Image as Image;

@@ -1,6 +1,7 @@
 // The board's tick timer (paper 02, request 12): its four registers as a struct by value. Any address is taken; one that names no register
 // is refused and changes nothing.
 #![tactic(auto)]
+
 ghost use Rattle.std.specs.Prelude.{◌≡◌};
 ghost use Rattle.timer.specs.Registers.{fresh, minus, reached, reading, interrupts, is_register, read_number, read_value, write_number, written, bit0, bit_word};
 

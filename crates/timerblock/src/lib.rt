@@ -1,6 +1,7 @@
 // The tick timer in a lent block (paper 02, request 12): 16 bytes, the registers as four little-endian words. A block of another length is
 // refused with 38 and stays as it was.
 #![tactic(auto)]
+
 ghost use Rattle.std.specs.Prelude.{◌≡◌, length};
 ghost use Rattle.timerblock.specs.Blocks.{timer_of, timer_bytes, block_number, started_bytes, reading_bytes, register_number, writing_number, written_bytes, interrupt_word};
 

@@ -1,6 +1,7 @@
 // 33 (paper 02, request 6): are words a draft with true totals? A few passes over places, ranks and cores, none inside another: the pieces are
 // gathered by rank and by core.
 #![tactic(auto)]
+
 ghost use Rattle.std.specs.Prelude.{◌≡◌, true, ◌&&◌, ◌+◌, ◌*◌, ◌^◌, ◌<◌, ◌≤◌, length, get_or, set};
 ghost use Rattle.plan.specs.Search.{all};
 ghost use Rattle.tallies.specs.Tallies.{Kept};

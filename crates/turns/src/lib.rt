@@ -1,6 +1,7 @@
 // A row of lanes' records, over words in bytes in which a plan's tables lie one after another (paper 02, request 14): all records started
 // there, or turned there from another plan's tables and stepped.
 #![tactic(auto)]
+
 ghost use Rattle.std.specs.Prelude.{◌≡◌, cond, ◌%◌, ◌/◌, eqb, length};
 ghost use mathlib.Core.List.{flat_map};
 ghost use Rattle.plan.specs.Dispatch.{starts_at, step, refusal, step_all};

@@ -1,5 +1,6 @@
 // Questions 7 to 13 (paper 01, "The questions"): windows, tasks and pieces.
 #![tactic(auto)]
+
 ghost use Rattle.std.specs.Prelude.{◌≡◌, ◌<◌, ◌≤◌, length, take};
 ghost use Rattle.plan.specs.declared.Table.TheVariants.{Tasks, Windows, Pieces};
 ghost use Rattle.plan.specs.Image.{rows};

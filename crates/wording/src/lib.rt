@@ -1,6 +1,7 @@
 // An answer in words (paper 02, request 9) put into lent bytes: what its number says, then its number and its place. As in crate lines, what does not fit
 // falls away, and the place after it is given either way.
 #![tactic(auto)]
+
 ghost use Rattle.std.specs.Prelude.{◌≡◌, ◌+◌, ◌^◌, ◌≤◌, length, drop};
 ghost use Rattle.texts.specs.Characters.{first_line, lines_from, line_at};
 ghost use Rattle.texts.specs.Wording.{phrase, named, kind, place, line_of, line_length, line_bytes};

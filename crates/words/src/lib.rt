@@ -1,5 +1,6 @@
 // Words as bytes, the lowest byte first: a word stored, and laws of words that stand in bytes (proofs/).
 #![tactic(auto)]
+
 ghost use Rattle.std.specs.Prelude.{◌≡◌, ◌+◌, ◌≤◌, length};
 ghost use Rattle.std.proofs.lemmas.List.Edits.{sets};
 ghost use Rattle.plan.specs.Boundary.{bytes_of};

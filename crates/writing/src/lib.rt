@@ -1,6 +1,7 @@
 // Tables in bytes (paper 01, "What the product covers" and "Dispatch"; question 26): a lane's table written into lent bytes as
 // little-endian words, entry by entry as the walk along the lane finds them, and the tables of all lanes.
 #![tactic(auto)]
+
 ghost use Rattle.std.specs.Prelude.{◌≡◌, ◌∷◌, [], ◌+◌, ◌*◌, ◌<◌, ◌≤◌, length};
 ghost use Rattle.plan.specs.Image.{cycle_ticks};
 ghost use Rattle.plan.specs.Dispatch.{lanes, entry_count, entries, table_of};

@@ -16,11 +16,11 @@ loop-j-init c = let a = c.args in (omega arith, same_none a.first.now a.second.n
 
 -- src/lib.rt:22:12
 pub field_of-requires : goal.field_of-requires
-field_of-requires c = let p = c.requires in let g = ap (λ (x : Shape). x.width) c.shape_of-width.ensures in record { in_image = inside _ p.0.first; row_bound = (p.1.0, omega arith); }
+field_of-requires c = let p = c.requires in let g = ap (λ (x : Shape). x.width) c.shape_of-width.ensures in record { in_image = inside _ p.0.first; row_bound = (p.1.0, omega arith) }
 
 -- src/lib.rt:22:46
 pub field_of-requires-in-loop-j : goal.field_of-requires-in-loop-j
-field_of-requires-in-loop-j c = let p = c.requires in let g = ap (λ (x : Shape). x.width) c.shape_of-width.ensures in record { in_image = inside _ p.0.second; row_bound = (p.1.1, omega arith); }
+field_of-requires-in-loop-j c = let p = c.requires in let g = ap (λ (x : Shape). x.width) c.shape_of-width.ensures in record { in_image = inside _ p.0.second; row_bound = (p.1.1, omega arith) }
 
 -- src/lib.rt:23:13
 pub returns-then-field_of : goal.returns-then-field_of

@@ -8,7 +8,7 @@ use Rattle.charges.proofs.charge_after.Goals as goal
 
 -- src/lib.rt:35:13
 pub core_at-v-requires : goal.core_at-v-requires
-core_at-v-requires c = let p = c.requires in record { in_image = p.0.inside; row_bound = rw c.window_core.ensures (core_exists _ p.0 _ p.1.0); }
+core_at-v-requires c = let p = c.requires in record { in_image = p.0.inside; row_bound = rw c.window_core.ensures (core_exists _ p.0 _ p.1.0) }
 
 -- src/lib.rt:37:9
 pub returns-then-start-eq0 : goal.returns-then-start-eq0

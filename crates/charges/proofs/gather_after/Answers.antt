@@ -21,7 +21,7 @@ loop-window-init c = let a = c.args in let p = c.requires in let s = a.image.now
 
 -- src/lib.rt:46:20
 pub window_at-vcpu-requires : goal.window_at-vcpu-requires
-window_at-vcpu-requires c = let a = c.args in let s = a.image.now in let p = c.requires in let l = c.loop-window in let i : l.window < rows s Windows = omega (arith, l.invariant.1, c.loop-window-test.true) in record { in_image = p.0.inside; row_bound = i; }
+window_at-vcpu-requires c = let a = c.args in let s = a.image.now in let p = c.requires in let l = c.loop-window in let i : l.window < rows s Windows = omega (arith, l.invariant.1, c.loop-window-test.true) in record { in_image = p.0.inside; row_bound = i }
 
 -- src/lib.rt:47:64
 pub offset_bounds-ends-vcpu : goal.offset_bounds-ends-vcpu
@@ -55,15 +55,7 @@ raise-requires c = let a = c.args in let s = a.image.now in let p = c.requires i
 -- src/lib.rt:45:5
 pub loop-window-preserved : goal.loop-window-preserved
 unfolding shape
-loop-window-preserved c = let a = c.args in let s = a.image.now in let p = c.requires in let l = c.loop-window in let i : l.window < rows s Windows = omega (arith, l.invariant.1, c.loop-window-test.true) in let m = p.0.inside.counts Windows in let e = c.window_at-vcpu.ensures in let g = c.raise in (omega arith, l.invariant.1, g.auto.0 ∙ l.invariant.2, rw c.charge_after.ensures (charged_more s l.charges l.window (omega (arith, i)) l.invariant.3), rw (g.ensures, e, c.window_end.ensures) (ended_on s p.0 l.ends l.window i l.invariant.4))
-
--- src/lib.rt:39:1
-pub shape_of-charges : goal.shape_of-charges
-shape_of-charges c = c.loop-window.invariant.3.size ∙ sym c.requires.1.0
-
--- src/lib.rt:39:1
-pub shape_of-ends : goal.shape_of-ends
-shape_of-ends c = c.loop-window.invariant.2
+loop-window-preserved c = let a = c.args in let s = a.image.now in let p = c.requires in let l = c.loop-window in let i : l.window < rows s Windows = omega (arith, l.invariant.1, c.loop-window-test.true) in let m = p.0.inside.counts Windows in let e = c.window_at-vcpu.ensures in let g = c.raise in (omega arith, l.invariant.1, g.auto.words ∙ l.invariant.2, rw c.charge_after.ensures (charged_more s l.charges l.window (omega (arith, i)) l.invariant.3), rw (g.ensures, e, c.window_end.ensures) (ended_on s p.0 l.ends l.window i l.invariant.4))
 
 -- src/lib.rt:39:1
 pub returns : goal.returns

@@ -18,7 +18,7 @@ loop-place-init c = (omega arith, refl)
 
 pub count_at-requires : goal.count_at-requires
 unfolding places
-count_at-requires c = let a = c.args in let p = c.requires in let l = c.loop-place in turn_ready a.more a.piece a.words.now l.words l.place l.invariant.1 p.0 (omega arith) p.1
+count_at-requires c = let a = c.args in let p = c.requires in let l = c.loop-place in let both = turn_ready a.more a.piece a.words.now l.words l.place l.invariant.1 p.0 (omega arith) p.1 in record { draft_words_in_bounds = both.0; countable = both.1 }
 
 pub overflow_add-place : goal.overflow_add-place
 overflow_add-place c = omega arith
@@ -28,9 +28,6 @@ loop-place-smaller c = omega arith
 
 pub loop-place-preserved : goal.loop-place-preserved
 loop-place-preserved c = let a = c.args in let l = c.loop-place in (omega arith, rw add-one (c.count_at.ensures ∙ ap (λ (v : List ℕ). sets v (place_at l.place + 4) (counted a.more a.piece v l.place)) l.invariant.1 ∙ counted_next a.more a.piece a.words.now l.place))
-
-pub shape_of-words : goal.shape_of-words
-shape_of-words c = let a = c.args in let l = c.loop-place in ap length l.invariant.1 ∙ length_counted a.more a.piece a.words.now l.place
 
 pub returns : goal.returns
 unfolding places

@@ -15,7 +15,7 @@ use Rattle.frames.proofs.each_framed.Goals as goal
 
 -- src/lib.rt:147:31
 pub stream_at-requires : goal.stream_at-requires
-stream_at-requires c = let p = c.requires in record { in_image = p.sound.0.inside; row_bound = p.stream_bound; }
+stream_at-requires c = let p = c.requires in record { in_image = p.sound.0.inside; row_bound = p.stream_bound }
 
 -- src/lib.rt:147:9
 pub jobs_of-jobs-requires : goal.jobs_of-jobs-requires
@@ -28,7 +28,7 @@ loop-job-init c = (omega arith, refl)
 
 -- src/lib.rt:150:13
 pub one_frame-requires : goal.one_frame-requires
-one_frame-requires c = let a = c.args in let p = c.requires in let s = a.image.now in let l = c.loop-job in let n = jobs s (stream s a.stream).sender in let g : c.jobs_of-jobs.result ≡ n = c.jobs_of-jobs.ensures ∙ ap (λ (x : Stream). jobs s x.sender) c.stream_at.ensures in let t = once_each s a.stream in record { sound = p.sound; job_of = record { row = p.stream_bound; job = omega arith }; }
+one_frame-requires c = let a = c.args in let p = c.requires in let s = a.image.now in let l = c.loop-job in let n = jobs s (stream s a.stream).sender in let g : c.jobs_of-jobs.result ≡ n = c.jobs_of-jobs.ensures ∙ ap (λ (x : Stream). jobs s x.sender) c.stream_at.ensures in let t = once_each s a.stream in record { sound = p.sound; job_of = record { row = p.stream_bound; job = omega arith } }
 
 -- src/lib.rt:151:13
 pub returns-then-not-one_frame : goal.returns-then-not-one_frame

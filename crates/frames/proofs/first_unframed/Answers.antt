@@ -24,7 +24,7 @@ loop-stream-init c = (omega arith, refl)
 
 -- src/lib.rt:166:13
 pub each_framed-requires : goal.each_framed-requires
-each_framed-requires c = let a = c.args in let p = c.requires in let s = a.image.now in let l = c.loop-stream in let g = c.rows_of-streams.ensures in let t = each_job s (once_each s) in record { sound = p; stream_bound = omega arith; }
+each_framed-requires c = let a = c.args in let p = c.requires in let s = a.image.now in let l = c.loop-stream in let g = c.rows_of-streams.ensures in let t = each_job s (once_each s) in record { sound = p; stream_bound = omega arith }
 
 -- src/lib.rt:167:13
 pub returns-then-not-each_framed : goal.returns-then-not-each_framed

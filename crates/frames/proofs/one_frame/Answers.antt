@@ -13,7 +13,7 @@ use Rattle.frames.proofs.one_frame.Goals as goal
 
 -- src/lib.rt:130:16
 pub stream_at-hops-requires : goal.stream_at-hops-requires
-stream_at-hops-requires c = let p = c.requires in record { in_image = p.sound.0.inside; row_bound = p.job_of.row; }
+stream_at-hops-requires c = let p = c.requires in record { in_image = p.sound.0.inside; row_bound = p.job_of.row }
 
 -- src/lib.rt:132:5
 pub loop-hop-init : goal.loop-hop-init
@@ -22,7 +22,7 @@ loop-hop-init c = (omega arith, refl)
 
 -- src/lib.rt:133:13
 pub has_one-requires : goal.has_one-requires
-has_one-requires c = let a = c.args in let p = c.requires in let s = a.image.now in let l = c.loop-hop in let g = ap (λ (x : Stream). x.hops) c.stream_at-hops.ensures in let t = once_at s a.stream a.job in record { sound = p.sound; job_of = (p.job_of, omega arith); }
+has_one-requires c = let a = c.args in let p = c.requires in let s = a.image.now in let l = c.loop-hop in let g = ap (λ (x : Stream). x.hops) c.stream_at-hops.ensures in let t = once_at s a.stream a.job in record { sound = p.sound; job_of = (p.job_of, omega arith) }
 
 -- src/lib.rt:134:13
 pub returns-then-not-has_one : goal.returns-then-not-has_one

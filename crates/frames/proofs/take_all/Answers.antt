@@ -16,7 +16,7 @@ loop-frame-init c = (omega arith, c.requires.1)
 
 -- src/lib.rt:96:9
 pub take_in-requires : goal.take_in-requires
-take_in-requires c = let p = c.requires in let g = c.rows_of-frames.ensures in record { sound = (p.0, omega arith); taken = c.loop-frame.invariant.1; }
+take_in-requires c = let p = c.requires in let g = c.rows_of-frames.ensures in record { sound = (p.0, omega arith); taken = c.loop-frame.invariant.1 }
 
 -- src/lib.rt:97:9
 pub overflow_add-frame : goal.overflow_add-frame

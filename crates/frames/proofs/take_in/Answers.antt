@@ -11,7 +11,7 @@ use Rattle.frames.proofs.take_in.Goals as goal
 
 -- src/lib.rt:82:17
 pub place_of-place-requires : goal.place_of-place-requires
-place_of-place-requires c = let a = c.args in let p = c.requires in record { sound = (p.sound.0, rw c.frame_at-f.ensures (p.sound.0.names Frames a.frame p.sound.1).0); kept = p.taken.starts; }
+place_of-place-requires c = let a = c.args in let p = c.requires in record { sound = (p.sound.0, rw c.frame_at-f.ensures (p.sound.0.names Frames a.frame p.sound.1).0); kept = p.taken.starts }
 
 -- src/lib.rt:84:9
 pub take_at-requires : goal.take_at-requires

@@ -60,9 +60,5 @@ pub loop-place-preserved : goal.loop-place-preserved
 loop-place-preserved c = let l = c.loop-place in (omega arith, simp length-set l.invariant.1, cleared_more c.args.cycle l.times l.place c.loop-place-test.true l.invariant.2)
 
 -- src/lib.rt:62:1
-pub shape_of-times : goal.shape_of-times
-shape_of-times c = c.loop-place.invariant.1
-
--- src/lib.rt:62:1
 pub returns : goal.returns
 returns c = let l = c.loop-place in let e : l.place ≡ most_pieces = omega arith in subst (Cleared c.args.cycle l.times) e l.invariant.2

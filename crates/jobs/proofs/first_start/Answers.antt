@@ -8,10 +8,6 @@ pub bounds-times-task : goal.bounds-times-task
 bounds-times-task c = let p = c.requires in let z = p.0.placed.size in let t = p.0.few in omega (arith, p.1.0)
 
 -- src/lib.rt:179:17
-pub overflow_cast-place-2 : goal.overflow_cast-place-2
-overflow_cast-place-2 c = let a = c.args in let p = c.requires in let z = p.0.placed.size in omega (arith, place_inside a.image.now a.times.now p.0 a.task a.job p.1.0 p.1.1)
-
--- src/lib.rt:179:17
 pub overflow_add-place : goal.overflow_add-place
 overflow_add-place c = let a = c.args in let p = c.requires in let z = p.0.placed.size in omega (arith, place_inside a.image.now a.times.now p.0 a.task a.job p.1.0 p.1.1)
 

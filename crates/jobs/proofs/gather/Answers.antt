@@ -7,4 +7,4 @@ use Rattle.jobs.proofs.gather.Goals as goal
 
 -- src/lib.rt:124:5
 pub place_tasks-requires : goal.place_tasks-requires
-place_tasks-requires c = let p = c.requires in (p.0, subst (λ (h : ℕ). Cleared h c.clear_jobs.new.0 most_pieces) c.cycle_ticks-cycle.ensures c.clear_jobs.ensures)
+place_tasks-requires c = let p = c.requires in (p.0, subst (λ (h : ℕ). Cleared h c.clear_jobs.new.times most_pieces) c.cycle_ticks-cycle.ensures c.clear_jobs.ensures)

@@ -45,9 +45,5 @@ unfolding shape
 loop-task-preserved c = let a = c.args in let s = a.image.now in let p = c.requires in let g = c.rows_of-tasks.ensures in let k = p.0.inside.counts Tasks in let l = c.loop-task in let j = c.jobs_of.ensures in (omega arith, c.lesser-place.ensures ∙ rw (j, l.invariant.1) (place_next s l.task), simp length-set l.invariant.2, rw l.invariant.1 (placed_more s l.times l.task (omega arith) l.invariant.3))
 
 -- src/lib.rt:47:1
-pub shape_of-times : goal.shape_of-times
-shape_of-times c = c.loop-task.invariant.2
-
--- src/lib.rt:47:1
 pub returns : goal.returns
 returns c = let l = c.loop-task in let s = c.args.image.now in let g = c.rows_of-tasks.ensures in let e : l.task ≡ rows s Tasks = omega arith in gathered_none s l.times (subst (PlacedTo s l.times) e l.invariant.3)

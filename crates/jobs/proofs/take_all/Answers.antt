@@ -29,11 +29,7 @@ loop-piece-smaller c = omega arith
 
 -- src/lib.rt:111:5
 pub loop-piece-preserved : goal.loop-piece-preserved
-loop-piece-preserved c = let l = c.loop-piece in let t = c.take_in in (omega arith, t.auto.times.0 ∙ l.invariant.1, t.ensures)
-
--- src/lib.rt:104:1
-pub shape_of-times : goal.shape_of-times
-shape_of-times c = c.loop-piece.invariant.1
+loop-piece-preserved c = let l = c.loop-piece in let t = c.take_in in (omega arith, t.auto.times ∙ l.invariant.1, t.ensures)
 
 -- src/lib.rt:104:1
 pub returns : goal.returns

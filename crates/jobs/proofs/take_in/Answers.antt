@@ -17,10 +17,6 @@ unfolding shape
 bounds-times-p c = let a = c.args in let s = a.image.now in let ts = a.times.now in let p = c.requires in let h = p.sound.0 in let q = p.sound.1.0 in let l = p.sound.1.1 in let g = p.gathered in let z = g.placed.size in let k = h.inside.counts Tasks in rw c.piece_at-p.ensures (omega (arith, task_exists s ts h 6 q (omega arith) a.piece l g))
 
 -- src/lib.rt:95:17
-pub overflow_cast-place-2 : goal.overflow_cast-place-2
-overflow_cast-place-2 c = let a = c.args in let s = a.image.now in let ts = a.times.now in let p = c.requires in let h = p.sound.0 in let q = p.sound.1.0 in let l = p.sound.1.1 in let g = p.gathered in let z = g.placed.size in rw c.piece_at-p.ensures (omega (arith, task_word s ts h 6 q (omega arith) a.piece l g))
-
--- src/lib.rt:95:17
 pub overflow_add-place : goal.overflow_add-place
 overflow_add-place c = let a = c.args in let s = a.image.now in let ts = a.times.now in let p = c.requires in let h = p.sound.0 in let q = p.sound.1.0 in let l = p.sound.1.1 in let g = p.gathered in let z = g.placed.size in rw (c.piece_at-p.ensures, at_is s ts h 6 q (omega arith) a.piece l g) (omega (arith, at_fits s ts h 6 q (omega arith) a.piece l g))
 

@@ -8,7 +8,7 @@ use Rattle.names.proofs.row_names.Goals as goal
 
 -- src/lib.rt:54:25
 pub vcpu_at-requires : goal.vcpu_at-requires
-vcpu_at-requires c = let p = c.requires in let a = c.args in record { in_image = p.0; row_bound = subst (λ (t : Table). a.row < rows a.image.now t) c.in-Vcpus.is p.1; }
+vcpu_at-requires c = let p = c.requires in let a = c.args in record { in_image = p.0; row_bound = subst (λ (t : Table). a.row < rows a.image.now t) c.in-Vcpus.is p.1 }
 
 -- src/lib.rt:54:52
 pub rows_of-requires : goal.rows_of-requires
@@ -16,7 +16,7 @@ rows_of-requires c = c.requires.0.trailer
 
 -- src/lib.rt:55:25
 pub task_at-requires : goal.task_at-requires
-task_at-requires c = let p = c.requires in let a = c.args in record { in_image = p.0; row_bound = subst (λ (t : Table). a.row < rows a.image.now t) c.in-Tasks.is p.1; }
+task_at-requires c = let p = c.requires in let a = c.args in record { in_image = p.0; row_bound = subst (λ (t : Table). a.row < rows a.image.now t) c.in-Tasks.is p.1 }
 
 -- src/lib.rt:55:52
 pub rows_of-requires-in-Tasks : goal.rows_of-requires-in-Tasks
@@ -24,7 +24,7 @@ rows_of-requires-in-Tasks c = c.requires.0.trailer
 
 -- src/lib.rt:56:27
 pub window_at-requires : goal.window_at-requires
-window_at-requires c = let p = c.requires in let a = c.args in record { in_image = p.0; row_bound = subst (λ (t : Table). a.row < rows a.image.now t) c.in-Windows.is p.1; }
+window_at-requires c = let p = c.requires in let a = c.args in record { in_image = p.0; row_bound = subst (λ (t : Table). a.row < rows a.image.now t) c.in-Windows.is p.1 }
 
 -- src/lib.rt:56:56
 pub rows_of-requires-in-Windows : goal.rows_of-requires-in-Windows
@@ -32,7 +32,7 @@ rows_of-requires-in-Windows c = c.requires.0.trailer
 
 -- src/lib.rt:57:26
 pub piece_at-requires : goal.piece_at-requires
-piece_at-requires c = let p = c.requires in let a = c.args in record { in_image = p.0; row_bound = subst (λ (t : Table). a.row < rows a.image.now t) c.in-Pieces.is p.1; }
+piece_at-requires c = let p = c.requires in let a = c.args in record { in_image = p.0; row_bound = subst (λ (t : Table). a.row < rows a.image.now t) c.in-Pieces.is p.1 }
 
 -- src/lib.rt:57:54
 pub rows_of-requires-in-Pieces : goal.rows_of-requires-in-Pieces

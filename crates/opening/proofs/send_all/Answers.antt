@@ -18,7 +18,7 @@ loop-frame-init c = let a = c.args in (omega arith, c.rows_of-frames.ensures, wa
 
 -- src/lib.rt:138:9
 pub take_in-at-requires : goal.take_in-at-requires
-take_in-at-requires c = let a = c.args in let p = c.requires in let l = c.loop-frame in record { image_value = (p.0, omega (arith, l.invariant.1, c.loop-frame-test.true)); walking = record { lent = a.list.now; words = p.1; walked = l.invariant.2 }; }
+take_in-at-requires c = let a = c.args in let p = c.requires in let l = c.loop-frame in record { image_value = (p.0, omega (arith, l.invariant.1, c.loop-frame-test.true)); walking = record { lent = a.list.now; words = p.1; walked = l.invariant.2 } }
 
 -- src/lib.rt:139:9
 pub overflow_add-frame : goal.overflow_add-frame

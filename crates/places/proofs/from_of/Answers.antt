@@ -11,15 +11,15 @@ use Rattle.places.proofs.from_of.Goals as goal
 
 pub piece_at-requires : goal.piece_at-requires
 unfolding table_for
-piece_at-requires c = let p = c.requires in let a = c.args in record { in_image = p.0.inside; row_bound = subst (λ (o : Occupant). a.row < rows a.image.now (table_for o)) c.in-Piece.is p.1; }
+piece_at-requires c = let p = c.requires in let a = c.args in record { in_image = p.0.inside; row_bound = subst (λ (o : Occupant). a.row < rows a.image.now (table_for o)) c.in-Piece.is p.1 }
 
 pub window_at-requires : goal.window_at-requires
 unfolding table_for
-window_at-requires c = let p = c.requires in let a = c.args in record { in_image = p.0.inside; row_bound = subst (λ (o : Occupant). a.row < rows a.image.now (table_for o)) c.in-Window.is p.1; }
+window_at-requires c = let p = c.requires in let a = c.args in record { in_image = p.0.inside; row_bound = subst (λ (o : Occupant). a.row < rows a.image.now (table_for o)) c.in-Window.is p.1 }
 
 pub frame_at-requires : goal.frame_at-requires
 unfolding table_for
-frame_at-requires c = let p = c.requires in let a = c.args in record { in_image = p.0.inside; row_bound = subst (λ (o : Occupant). a.row < rows a.image.now (table_for o)) c.in-Frame.is p.1; }
+frame_at-requires c = let p = c.requires in let a = c.args in record { in_image = p.0.inside; row_bound = subst (λ (o : Occupant). a.row < rows a.image.now (table_for o)) c.in-Frame.is p.1 }
 
 pub returns-in-Piece : goal.returns-in-Piece
 unfolding from_of

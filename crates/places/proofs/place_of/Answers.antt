@@ -17,7 +17,7 @@ window_core-requires c = let p = c.requires in let a = c.args in (p.0, subst (λ
 
 pub frame_at-requires : goal.frame_at-requires
 unfolding table_for
-frame_at-requires c = let p = c.requires in let a = c.args in record { in_image = p.0.inside; row_bound = subst (λ (o : Occupant). a.row < rows a.image.now (table_for o)) c.in-Frame.is p.1; }
+frame_at-requires c = let p = c.requires in let a = c.args in record { in_image = p.0.inside; row_bound = subst (λ (o : Occupant). a.row < rows a.image.now (table_for o)) c.in-Frame.is p.1 }
 
 pub returns-in-Piece : goal.returns-in-Piece
 unfolding place_of

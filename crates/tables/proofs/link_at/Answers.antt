@@ -6,27 +6,27 @@ use Rattle.tables.proofs.link_at.Goals as goal
 -- src/lib.rt:226:15
 pub field_of-requires : goal.field_of-requires
 unfolding shape
-field_of-requires c = let p = c.requires in record { in_image = p.in_image; row_bound = (p.row_bound, omega arith); }
+field_of-requires c = let p = c.requires in record { in_image = p.in_image; row_bound = (p.row_bound, omega arith) }
 
 -- src/lib.rt:227:13
 pub field_of-requires-2 : goal.field_of-requires-2
 unfolding shape
-field_of-requires-2 c = let p = c.requires in record { in_image = p.in_image; row_bound = (p.row_bound, omega arith); }
+field_of-requires-2 c = let p = c.requires in record { in_image = p.in_image; row_bound = (p.row_bound, omega arith) }
 
 -- src/lib.rt:228:16
 pub field_of-requires-3 : goal.field_of-requires-3
 unfolding shape
-field_of-requires-3 c = let p = c.requires in record { in_image = p.in_image; row_bound = (p.row_bound, omega arith); }
+field_of-requires-3 c = let p = c.requires in record { in_image = p.in_image; row_bound = (p.row_bound, omega arith) }
 
 -- src/lib.rt:229:15
 pub field_of-requires-4 : goal.field_of-requires-4
 unfolding shape
-field_of-requires-4 c = let p = c.requires in record { in_image = p.in_image; row_bound = (p.row_bound, omega arith); }
+field_of-requires-4 c = let p = c.requires in record { in_image = p.in_image; row_bound = (p.row_bound, omega arith) }
 
 -- src/lib.rt:230:17
 pub field_of-requires-5 : goal.field_of-requires-5
 unfolding shape
-field_of-requires-5 c = let p = c.requires in record { in_image = p.in_image; row_bound = (p.row_bound, omega arith); }
+field_of-requires-5 c = let p = c.requires in record { in_image = p.in_image; row_bound = (p.row_bound, omega arith) }
 
 -- src/lib.rt:220:1
 pub returns : goal.returns

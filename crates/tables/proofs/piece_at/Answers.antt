@@ -6,22 +6,22 @@ use Rattle.tables.proofs.piece_at.Goals as goal
 -- src/lib.rt:193:19
 pub field_of-requires : goal.field_of-requires
 unfolding shape
-field_of-requires c = let p = c.requires in record { in_image = p.in_image; row_bound = (p.row_bound, omega arith); }
+field_of-requires c = let p = c.requires in record { in_image = p.in_image; row_bound = (p.row_bound, omega arith) }
 
 -- src/lib.rt:194:18
 pub field_of-requires-2 : goal.field_of-requires-2
 unfolding shape
-field_of-requires-2 c = let p = c.requires in record { in_image = p.in_image; row_bound = (p.row_bound, omega arith); }
+field_of-requires-2 c = let p = c.requires in record { in_image = p.in_image; row_bound = (p.row_bound, omega arith) }
 
 -- src/lib.rt:195:20
 pub field_of-requires-3 : goal.field_of-requires-3
 unfolding shape
-field_of-requires-3 c = let p = c.requires in record { in_image = p.in_image; row_bound = (p.row_bound, omega arith); }
+field_of-requires-3 c = let p = c.requires in record { in_image = p.in_image; row_bound = (p.row_bound, omega arith) }
 
 -- src/lib.rt:196:21
 pub field_of-requires-4 : goal.field_of-requires-4
 unfolding shape
-field_of-requires-4 c = let p = c.requires in record { in_image = p.in_image; row_bound = (p.row_bound, omega arith); }
+field_of-requires-4 c = let p = c.requires in record { in_image = p.in_image; row_bound = (p.row_bound, omega arith) }
 
 -- src/lib.rt:187:5
 pub returns : goal.returns

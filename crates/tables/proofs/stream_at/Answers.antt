@@ -6,32 +6,32 @@ use Rattle.tables.proofs.stream_at.Goals as goal
 -- src/lib.rt:230:21
 pub field_of-requires : goal.field_of-requires
 unfolding shape
-field_of-requires c = let p = c.requires in record { in_image = p.in_image; row_bound = (p.row_bound, omega arith); }
+field_of-requires c = let p = c.requires in record { in_image = p.in_image; row_bound = (p.row_bound, omega arith) }
 
 -- src/lib.rt:231:23
 pub field_of-requires-2 : goal.field_of-requires-2
 unfolding shape
-field_of-requires-2 c = let p = c.requires in record { in_image = p.in_image; row_bound = (p.row_bound, omega arith); }
+field_of-requires-2 c = let p = c.requires in record { in_image = p.in_image; row_bound = (p.row_bound, omega arith) }
 
 -- src/lib.rt:232:22
 pub field_of-requires-3 : goal.field_of-requires-3
 unfolding shape
-field_of-requires-3 c = let p = c.requires in record { in_image = p.in_image; row_bound = (p.row_bound, omega arith); }
+field_of-requires-3 c = let p = c.requires in record { in_image = p.in_image; row_bound = (p.row_bound, omega arith) }
 
 -- src/lib.rt:233:19
 pub field_of-requires-4 : goal.field_of-requires-4
 unfolding shape
-field_of-requires-4 c = let p = c.requires in record { in_image = p.in_image; row_bound = (p.row_bound, omega arith); }
+field_of-requires-4 c = let p = c.requires in record { in_image = p.in_image; row_bound = (p.row_bound, omega arith) }
 
 -- src/lib.rt:234:19
 pub field_of-requires-5 : goal.field_of-requires-5
 unfolding shape
-field_of-requires-5 c = let p = c.requires in record { in_image = p.in_image; row_bound = (p.row_bound, omega arith); }
+field_of-requires-5 c = let p = c.requires in record { in_image = p.in_image; row_bound = (p.row_bound, omega arith) }
 
 -- src/lib.rt:288:16
 pub field_of-requires-6 : goal.field_of-requires-6
 unfolding shape
-field_of-requires-6 c = let p = c.requires in record { in_image = p.in_image; row_bound = (p.row_bound, omega arith); }
+field_of-requires-6 c = let p = c.requires in record { in_image = p.in_image; row_bound = (p.row_bound, omega arith) }
 
 -- src/lib.rt:224:5
 pub returns : goal.returns

@@ -6,27 +6,27 @@ use Rattle.tables.proofs.task_at.Goals as goal
 -- src/lib.rt:155:19
 pub field_of-requires : goal.field_of-requires
 unfolding shape
-field_of-requires c = let p = c.requires in record { in_image = p.in_image; row_bound = (p.row_bound, omega arith); }
+field_of-requires c = let p = c.requires in record { in_image = p.in_image; row_bound = (p.row_bound, omega arith) }
 
 -- src/lib.rt:156:19
 pub field_of-requires-2 : goal.field_of-requires-2
 unfolding shape
-field_of-requires-2 c = let p = c.requires in record { in_image = p.in_image; row_bound = (p.row_bound, omega arith); }
+field_of-requires-2 c = let p = c.requires in record { in_image = p.in_image; row_bound = (p.row_bound, omega arith) }
 
 -- src/lib.rt:157:21
 pub field_of-requires-3 : goal.field_of-requires-3
 unfolding shape
-field_of-requires-3 c = let p = c.requires in record { in_image = p.in_image; row_bound = (p.row_bound, omega arith); }
+field_of-requires-3 c = let p = c.requires in record { in_image = p.in_image; row_bound = (p.row_bound, omega arith) }
 
 -- src/lib.rt:158:21
 pub field_of-requires-4 : goal.field_of-requires-4
 unfolding shape
-field_of-requires-4 c = let p = c.requires in record { in_image = p.in_image; row_bound = (p.row_bound, omega arith); }
+field_of-requires-4 c = let p = c.requires in record { in_image = p.in_image; row_bound = (p.row_bound, omega arith) }
 
 -- src/lib.rt:159:23
 pub field_of-requires-5 : goal.field_of-requires-5
 unfolding shape
-field_of-requires-5 c = let p = c.requires in record { in_image = p.in_image; row_bound = (p.row_bound, omega arith); }
+field_of-requires-5 c = let p = c.requires in record { in_image = p.in_image; row_bound = (p.row_bound, omega arith) }
 
 -- src/lib.rt:149:5
 pub returns : goal.returns

@@ -10,7 +10,7 @@ use Rattle.terms.proofs.across_at.Goals as goal
 
 -- src/lib.rt:137:31
 pub link_at-requires : goal.link_at-requires
-link_at-requires c = let p = c.requires in record { in_image = p.0.inside; row_bound = rw c.frame_at-link.ensures (p.0.names Frames c.args.frame p.1).1; }
+link_at-requires c = let p = c.requires in record { in_image = p.0.inside; row_bound = rw c.frame_at-link.ensures (p.0.names Frames c.args.frame p.1).1 }
 
 -- src/lib.rt:137:5
 pub overflow_add-result : goal.overflow_add-result

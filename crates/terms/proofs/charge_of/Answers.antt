@@ -6,7 +6,7 @@ use Rattle.terms.proofs.charge_of.Goals as goal
 
 -- src/lib.rt:125:13
 pub core_at-v-requires : goal.core_at-v-requires
-core_at-v-requires c = let p = c.requires in let a = c.args in record { in_image = p.0.inside; row_bound = rw c.window_core.ensures (window_core_below a.image.now p.0 a.window p.1); }
+core_at-v-requires c = let p = c.requires in let a = c.args in record { in_image = p.0.inside; row_bound = rw c.window_core.ensures (window_core_below a.image.now p.0 a.window p.1) }
 
 -- src/lib.rt:127:9
 pub returns-then-window_at-eq0 : goal.returns-then-window_at-eq0

@@ -6,7 +6,7 @@ use Rattle.terms.proofs.node_of.Goals as goal
 
 -- src/lib.rt:35:5
 pub core_at-requires : goal.core_at-requires
-core_at-requires c = let p = c.requires in let a = c.args in record { in_image = p.0.inside; row_bound = rw c.core_of.ensures (core_below a.image.now p.0 a.task p.1); }
+core_at-requires c = let p = c.requires in let a = c.args in record { in_image = p.0.inside; row_bound = rw c.core_of.ensures (core_below a.image.now p.0 a.task p.1) }
 
 -- src/lib.rt:31:1
 pub returns : goal.returns

@@ -7,7 +7,7 @@ use Rattle.terms.proofs.over_from.Goals as goal
 
 -- src/lib.rt:241:33
 pub link_at-requires : goal.link_at-requires
-link_at-requires c = let p = c.requires in record { in_image = p.0.inside; row_bound = rw c.frame_at-f.ensures (p.0.names Frames c.args.frame p.1).1; }
+link_at-requires c = let p = c.requires in record { in_image = p.0.inside; row_bound = rw c.frame_at-f.ensures (p.0.names Frames c.args.frame p.1).1 }
 
 -- src/lib.rt:244:9
 pub returns-then-over-precision : goal.returns-then-over-precision

@@ -19,7 +19,7 @@ unfolding all
 loop-core-init c = (omega arith, refl)
 
 pub core_seen-requires : goal.core_seen-requires
-core_seen-requires c = let p = c.requires in record { draft_words_in_bounds = (p.0.room, omega (arith, (head_parts _ p.0).3, c.core_count-cores.ensures)); core_sums = p.1; }
+core_seen-requires c = let p = c.requires in record { draft_words_in_bounds = (p.0.room, omega (arith, (head_parts _ p.0).3, c.core_count-cores.ensures)); core_sums = p.1 }
 
 pub returns-then-not-core_seen : goal.returns-then-not-core_seen
 returns-then-not-core_seen c = let l = c.loop-core in let w = c.args.words.now in sym (all_stops (core_seen w) (draft_cores w) l.core (omega (arith, c.core_count-cores.ensures, c.loop-core-test.true)) (sym c.core_seen.ensures ∙ c.if-not-core_seen.true))

@@ -11,7 +11,7 @@ loop-place-init c = let p = c.requires in (omega arith, gathered_none _ _ p.gath
 
 pub take_in-requires : goal.take_in-requires
 unfolding places
-take_in-requires c = let p = c.requires in record { headed = (p.headed, omega arith); gathered = c.loop-place.invariant.1; }
+take_in-requires c = let p = c.requires in record { headed = (p.headed, omega arith); gathered = c.loop-place.invariant.1 }
 
 pub overflow_add-place : goal.overflow_add-place
 overflow_add-place c = omega arith
@@ -21,9 +21,6 @@ loop-place-smaller c = omega arith
 
 pub loop-place-preserved : goal.loop-place-preserved
 loop-place-preserved c = (omega arith, c.take_in.ensures)
-
-pub shape_of-gathered : goal.shape_of-gathered
-shape_of-gathered c = c.loop-place.invariant.1.room ∙ sym c.requires.gathered_len.0
 
 pub returns : goal.returns
 unfolding places

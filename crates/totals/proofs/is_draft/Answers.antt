@@ -30,7 +30,7 @@ pub returns-then-not-places_fit : goal.returns-then-not-places_fit
 returns-then-not-places_fit c = let w = c.args.words.now in let r : draft_words ≤ length w = enough w c.if-words-lt-WORDS.false in let f = sym c.head_in_range.ensures ∙ c.if-not-head_in_range.false in let t = sym c.tasks_in_range.ensures ∙ c.if-not-tasks_in_range.false in no_places w r f t (sym c.places_fit.ensures ∙ c.if-not-places_fit.true)
 
 pub totals_true-requires : goal.totals_true-requires
-totals_true-requires c = let w = c.args.words.now in let r : draft_words ≤ length w = enough w c.if-words-lt-WORDS.false in let f = sym c.head_in_range.ensures ∙ c.if-not-head_in_range.false in let t = sym c.tasks_in_range.ensures ∙ c.if-not-tasks_in_range.false in record { headed = (headed w r f t, sym c.places_fit.ensures ∙ c.if-not-places_fit.false); gathered_len = ((refl, kept_fresh 6144 0), (refl, kept_fresh 32 0)); }
+totals_true-requires c = let w = c.args.words.now in let r : draft_words ≤ length w = enough w c.if-words-lt-WORDS.false in let f = sym c.head_in_range.ensures ∙ c.if-not-head_in_range.false in let t = sym c.tasks_in_range.ensures ∙ c.if-not-tasks_in_range.false in record { headed = (headed w r f t, sym c.places_fit.ensures ∙ c.if-not-places_fit.false); gathered_len = ((refl, kept_fresh 6144 0), (refl, kept_fresh 32 0)) }
 
 pub returns : goal.returns
 returns c = let w = c.args.words.now in let r : draft_words ≤ length w = enough w c.if-words-lt-WORDS.false in let f = sym c.head_in_range.ensures ∙ c.if-not-head_in_range.false in let t = sym c.tasks_in_range.ensures ∙ c.if-not-tasks_in_range.false in c.totals_true.ensures ∙ rest_is w r f t

@@ -16,7 +16,7 @@ loop-place-init c = (omega arith, refl)
 
 pub place_seen-requires : goal.place_seen-requires
 unfolding places
-place_seen-requires c = let p = c.requires in record { headed = (p.0, omega arith); gathered = p.1; }
+place_seen-requires c = let p = c.requires in record { headed = (p.0, omega arith); gathered = p.1 }
 
 pub returns-then-not-place_seen : goal.returns-then-not-place_seen
 unfolding places

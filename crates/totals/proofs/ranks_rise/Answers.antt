@@ -12,7 +12,7 @@ loop-rank-init c = (omega arith, climbed_none _)
 
 pub climb_at-climb-requires : goal.climb_at-climb-requires
 unfolding places
-climb_at-climb-requires c = let p = c.requires in let l = c.loop-rank in record { headed = (p, omega arith); last_lt_places = subst (λ (z : Climb). (z.last < 2048) × (z.seen ≤ 2048 * l.rank)) (sym l.invariant.1) (climbed_small c.args.words.now l.rank); }
+climb_at-climb-requires c = let p = c.requires in let l = c.loop-rank in record { headed = (p, omega arith); last_lt_places = subst (λ (z : Climb). (z.last < 2048) × (z.seen ≤ 2048 * l.rank)) (sym l.invariant.1) (climbed_small c.args.words.now l.rank) }
 
 pub overflow_add-rank : goal.overflow_add-rank
 overflow_add-rank c = omega arith

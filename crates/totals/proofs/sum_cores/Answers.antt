@@ -11,7 +11,7 @@ loop-place-init c = let p = c.requires in (omega arith, summed_none _ _ p.sums_l
 
 pub sum_in-requires : goal.sum_in-requires
 unfolding places
-sum_in-requires c = let p = c.requires in record { headed = (p.headed, omega arith); core_sums = c.loop-place.invariant.1; }
+sum_in-requires c = let p = c.requires in record { headed = (p.headed, omega arith); core_sums = c.loop-place.invariant.1 }
 
 pub overflow_add-place : goal.overflow_add-place
 overflow_add-place c = omega arith
@@ -21,9 +21,6 @@ loop-place-smaller c = omega arith
 
 pub loop-place-preserved : goal.loop-place-preserved
 loop-place-preserved c = (omega arith, c.sum_in.ensures)
-
-pub shape_of-sums : goal.shape_of-sums
-shape_of-sums c = c.loop-place.invariant.1.room ∙ sym c.requires.sums_len.0
 
 pub returns : goal.returns
 unfolding places

@@ -7,6 +7,7 @@ use borrow.Author.Rules.{rules}
 use Rattle.texts.specs.Characters.{lines_from}
 use Rattle.wording.proofs.Texts.{from_zero, one_line_fewer, same_lines, none_left}
 use Rattle.wording.proofs.line_start.Goals as goal
+use Rattle.wording.proofs.line_start.Goals.{then-text-at-eq10, else-text-at-eq10}
 
 pub loop-at-init : goal.loop-at-init
 loop-at-init c = (omega arith, refl)
@@ -21,7 +22,15 @@ pub loop-at-smaller : goal.loop-at-smaller
 loop-at-smaller c = omega arith
 
 pub loop-at-preserved : goal.loop-at-preserved
-loop-at-preserved c = ?
+loop-at-preserved c =
+    let l = c.loop-at in let text = c.args.text.now in
+    let k = c.loop-at-test.true in let some : 1 ≤ l.left = omega (arith, c.if-left-eq0.false) in
+    let e : l.at + 1 ≡ suc l.at = omega arith in
+    let same : (m : ℕ) → c.if-text-at-eq10.left ≡ m → lines_from c.if-text-at-eq10.left (drop (l.at + 1) text) ≡ lines_from m (drop (suc l.at) text) = λ m q. rw (q, e) refl in
+    elim c.if-text-at-eq10.branch [
+      | then-text-at-eq10 w ↦ (omega arith, same _ w.left-is ∙ one_line_fewer text l.at k l.left some w.if-text-at-eq10.true ∙ l.invariant.1)
+      | else-text-at-eq10 w ↦ (omega arith, same _ w.left-is ∙ same_lines text l.at k l.left some w.if-text-at-eq10.false ∙ l.invariant.1)
+    ]
 
 pub returns : goal.returns
 returns c = let l = c.loop-at in let text = c.args.text.now in let e : l.at ≡ length text = omega (arith, l.invariant.0) in (l.invariant.0, sym (none_left text l.at e l.left) ∙ l.invariant.1)
