@@ -114,7 +114,7 @@ fn number_at(words: &[u8], states: &[u8], i: usize) -> u32
 }
 
 // The number of the lowest record that is refused, or 0.
-fn refused_number(words: &[u8], states: &[u8]) -> u32
+pub fn refused_number(words: &[u8], states: &[u8]) -> u32
     ensures { result ≡ step_all_number words.now states.now }
 {
     let mut i = 0;
@@ -129,7 +129,7 @@ fn refused_number(words: &[u8], states: &[u8]) -> u32
 }
 
 // Moves all records, none of which is refused.
-fn move_all(words: &[u8], states: &mut [u8])
+pub fn move_all(words: &[u8], states: &mut [u8])
     requires { step_all_number words.now states.old ≡ 0 }
     ensures { states.new ≡ step_all_bytes words.now states.old }
 {

@@ -52,20 +52,12 @@ pub inside_last-requires : goal.inside_last-requires
 inside_last-requires c = let a = c.args in let s = a.image.now in let p = c.requires in let l = c.loop-piece in let i : l.piece < rows s Pieces = omega (arith, l.invariant.1, c.loop-piece-test.true) in let t = c.take_windows-window in let e = c.piece_at.ensures in let b : Begun s (piece s l.piece).start t.result = subst (λ (x : Piece). Begun s x.start t.result) e t.ensures.0 in let v = c.vcpu_of-vcpu.ensures in let r = holder_read s p.sound.0 t.new.last t.result l.piece i t.ensures.1 in let m = b.rows_most in record { sound = (p.sound.0, (p.sound.1.1, i)); last_bound = rw (v, r) (omega (arith, holder_most s p.sound.0 t.result (vcpu_of s l.piece))); }
 
 -- src/lib.rt:89:13
-pub shape_of-last-then-not-inside_last : goal.shape_of-last-then-not-inside_last
-shape_of-last-then-not-inside_last c = c.take_windows-window.auto.last ∙ c.loop-piece.invariant.2
-
--- src/lib.rt:89:13
 pub returns-then-not-inside_last : goal.returns-then-not-inside_last
 returns-then-not-inside_last c = let a = c.args in let s = a.image.now in let p = c.requires in let l = c.loop-piece in let i : l.piece < rows s Pieces = omega (arith, l.invariant.1, c.loop-piece-test.true) in let t = c.take_windows-window in let e = c.piece_at.ensures in let b : Begun s (piece s l.piece).start t.result = subst (λ (x : Piece). Begun s x.start t.result) e t.ensures.0 in let v = c.vcpu_of-vcpu.ensures in sym (stops (piece_inside s) (rows s Pieces) l.piece l.invariant.6 i (sym (c.inside_last.ensures ∙ ap (inside_last s l.piece) (ap (λ (x : ℕ). get_or t.new.last x 0) v ∙ holder_read s p.sound.0 t.new.last t.result l.piece i t.ensures.1) ∙ asked_last s p.sound.0 p.sound.1.0 l.piece i t.result b) ∙ c.if-not-inside_last.true))
 
 -- src/lib.rt:85:5
 pub loop-piece-preserved : goal.loop-piece-preserved
 loop-piece-preserved c = let a = c.args in let s = a.image.now in let p = c.requires in let l = c.loop-piece in let i : l.piece < rows s Pieces = omega (arith, l.invariant.1, c.loop-piece-test.true) in let t = c.take_windows-window in let e = c.piece_at.ensures in let b : Begun s (piece s l.piece).start t.result = subst (λ (x : Piece). Begun s x.start t.result) e t.ensures.0 in let v = c.vcpu_of-vcpu.ensures in (omega arith, l.invariant.1, t.auto.last ∙ l.invariant.2, b.rows_most, t.ensures.1, led_on s p.sound.0 t.result l.piece b.begun, rw add-one (turn_yes (piece_inside s) l.piece l.invariant.6 (sym (c.inside_last.ensures ∙ ap (inside_last s l.piece) (ap (λ (x : ℕ). get_or t.new.last x 0) v ∙ holder_read s p.sound.0 t.new.last t.result l.piece i t.ensures.1) ∙ asked_last s p.sound.0 p.sound.1.0 l.piece i t.result b) ∙ c.if-not-inside_last.false)))
-
--- src/lib.rt:77:1
-pub shape_of-last : goal.shape_of-last
-shape_of-last c = c.loop-piece.invariant.2
 
 -- src/lib.rt:77:1
 pub returns : goal.returns

@@ -25,10 +25,8 @@ pub window_at-w-requires : goal.window_at-w-requires
 window_at-w-requires c = let a = c.args in let s = a.image.now in let p = c.requires in let l = c.loop-window in let i : l.window < rows s Windows = omega (arith, l.invariant.1, c.loop-window-test.true) in record { in_image = p.sound.0.inside; row_bound = i; }
 
 -- src/lib.rt:48:13
-pub shape_of-last-then-tick-w : goal.shape_of-last-then-tick-w
-shape_of-last-then-tick-w c = c.loop-window.invariant.2
-
-returns-then-tick-w c = let a = c.args in let s = a.image.now in let p = c.requires in let l = c.loop-window in let i : l.window < rows s Windows = omega (arith, l.invariant.1, c.loop-window-test.true) in let e : _ ≡ (window s l.window).start = (ap (λ (x : Window). x.start) c.window_at-w.ensures) in (record { rows-most = omega (arith, i); begun = l.invariant.4; next = λ z. omega (arith, e, c.if-tick-w.true) }, l.invariant.3)
+pub returns-then-tick-w : goal.returns-then-tick-w
+returns-then-tick-w c = let a = c.args in let s = a.image.now in let p = c.requires in let l = c.loop-window in let i : l.window < rows s Windows = omega (arith, l.invariant.1, c.loop-window-test.true) in let e : _ ≡ (window s l.window).start = (ap (λ (x : Window). x.start) c.window_at-w.ensures) in (record { rows_most = omega (arith, i); begun = l.invariant.4; next = λ z. omega (arith, e, c.if-tick-w.true) }, l.invariant.3)
 
 -- src/lib.rt:50:9
 pub offset_bounds-last-w : goal.offset_bounds-last-w
@@ -43,6 +41,5 @@ pub loop-window-preserved : goal.loop-window-preserved
 loop-window-preserved c = let a = c.args in let s = a.image.now in let p = c.requires in let l = c.loop-window in let i : l.window < rows s Windows = omega (arith, l.invariant.1, c.loop-window-test.true) in let e : _ ≡ (window s l.window).start = (ap (λ (x : Window). x.start) c.window_at-w.ensures) in (omega arith, l.invariant.1, simp length-set l.invariant.2, rw c.window_at-w.ensures (held_on s p.sound.0 l.last l.window i l.invariant.3), starting_on s a.tick l.window l.invariant.4 (omega (arith, e, c.if-tick-w.false)))
 
 -- src/lib.rt:38:1
-pub shape_of-last : goal.shape_of-last
-shape_of-last c = c.loop-window.invariant.2
-
+pub returns : goal.returns
+returns c = let l = c.loop-window in (record { rows_most = omega (arith, l.invariant.0, l.invariant.1); begun = l.invariant.4; next = λ z. absurd (omega (arith, l.invariant.1, c.loop-window-test.false)) }, l.invariant.3)

@@ -1,0 +1,17 @@
+use Prim.Native.Nat.{ℕ, ◌-◌, ◌≤◌}
+use mathlib.Core.Path.{◌≡◌, refl, sym, subst, ◌∙◌}
+use native.Mathlib.Omega.{arith}
+use native.Mathlib.Numerals.{add-one}
+use borrow.Author.Tests.{not-true, not-false}
+use Rattle.plan.specs.declared.Found.TheVariants.{Nothing}
+use Rattle.plan.specs.Search.{first_no}
+use Rattle.plan.specs.Questions.{question_at, buffer_questions}
+use Rattle.plan.proofs.Searching.{turn_yes, stops}
+use Rattle.buffers.proofs.Asked.{asks}
+use Rattle.buffers.proofs.first_no.Given as goal
+
+abbrev pub invariant-loop-row : goal.invariant-loop-row
+invariant-loop-row l = (l.row ≤ l.rows) × (first_no l.row (question_at (buffer_questions l.image) l.place).ok ≡ Nothing)
+
+abbrev pub decreases-loop-row : goal.decreases-loop-row
+decreases-loop-row l = l.rows - l.row

@@ -1,0 +1,16 @@
+use mathlib.Core.Path.{refl, sym, ◌∙◌}
+use Rattle.plan.specs.Questions.{hold_apart}
+use Rattle.buffers.specs.Holds.{holds_apart}
+use Rattle.plan.specs.Search.{apart}
+use borrow.Author.Rules.{rules}
+use Rattle.buffers.proofs.row_apart.Goals as goal
+
+-- src/lib.rt:140:1
+pub returns-then-same_buffer : goal.returns-then-same_buffer
+unfolding hold_apart holds_apart apart
+returns-then-same_buffer c = rw (sym c.same_buffer.ensures ∙ c.if-same_buffer.true) c.holds_apart.ensures
+
+-- src/lib.rt:140:1
+pub returns-else-same_buffer : goal.returns-else-same_buffer
+unfolding hold_apart holds_apart apart
+returns-else-same_buffer c = rw (sym c.same_buffer.ensures ∙ c.if-same_buffer.false) refl

@@ -1,0 +1,19 @@
+use Prim.Native.Nat.{ℕ, ◌+◌, ◌*◌, ◌-◌, ◌≤◌}
+use mathlib.Core.Path.{◌≡◌, refl, sym, ap, ◌∙◌}
+use mathlib.Core.List.{List}
+use native.Mathlib.Omega.{arith}
+use lib.ListN.{length, get_or}
+use Rattle.plan.specs.declared.Shape.{Shape}
+use Rattle.plan.specs.declared.Table.{Table}
+use Rattle.tables.specs.Tables.{table_count, table_at}
+use Rattle.tables.proofs.Shapes.{row_words}
+use Rattle.tallies.proofs.Tallying.{kept_at}
+use Rattle.composing.specs.Composing.{Wrote, Tallied}
+use Rattle.composing.proofs.Writing.{stored_size, layout_end, wrote_none, wrote_as, end_to, places_to, end_first, places_first, layout_turn, layout_done}
+use Rattle.composing.proofs.put_layout.Given as goal
+
+abbrev pub invariant-loop-i : goal.invariant-loop-i
+invariant-loop-i l = (l.i ≤ 10) × ((l.place ≡ l.at + 8 * l.i) × ((l.from ≤ l.i * 131072) × ((length l.joined ≡ length l.initial.joined) × ((rs : Table → List (List ℕ)) → Tallied rs l.counts → (l.from ≡ end_to rs l.i) × Wrote l.initial.joined l.at (places_to rs l.i) l.place l.joined))))
+
+abbrev pub decreases-loop-i : goal.decreases-loop-i
+decreases-loop-i l = 10 - l.i

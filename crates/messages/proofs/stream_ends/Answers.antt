@@ -1,0 +1,21 @@
+use mathlib.Core.Path.{refl}
+use Rattle.plan.specs.Questions.{stream_ends}
+use Rattle.plan.specs.declared.Table.TheVariants.{Streams}
+use borrow.Author.Rules.{rules}
+use Rattle.messages.proofs.stream_ends.Goals as goal
+
+pub task_at-requires : goal.task_at-requires
+task_at-requires c = let p = c.requires in record { in_image = p.0.inside; row_bound = rw c.stream_at-m.ensures (p.0.names Streams c.args.stream p.1).0; }
+
+pub task_at-requires-2 : goal.task_at-requires-2
+task_at-requires-2 c = let p = c.requires in record { in_image = p.0.inside; row_bound = rw c.stream_at-m.ensures (p.0.names Streams c.args.stream p.1).1; }
+
+pub node_of-requires : goal.node_of-requires
+node_of-requires c = let p = c.requires in (p.0, rw c.stream_at-m.ensures (p.0.names Streams c.args.stream p.1).0)
+
+pub node_of-requires-2 : goal.node_of-requires-2
+node_of-requires-2 c = let p = c.requires in (p.0, rw c.stream_at-m.ensures (p.0.names Streams c.args.stream p.1).1)
+
+pub returns : goal.returns
+unfolding stream_ends
+returns c = rw (c.node_of-2.ensures, c.node_of.ensures, c.task_at-2.ensures, c.task_at.ensures, c.stream_at-m.ensures) refl

@@ -1,0 +1,7 @@
+use mathlib.Core.Path.{refl}
+use borrow.Author.Rules.{rules}
+use Rattle.streams.proofs.ask.Goals as goal
+
+-- src/lib.rt:264:5
+pub gather-requires : goal.gather-requires
+gather-requires c = (c.requires.0, refl)
