@@ -6,7 +6,6 @@ use mathlib.Core.Bool.{true, false, not, ◌&&◌, cond}
 use mathlib.Core.List.{List}
 use native.Mathlib.Decide.{ℕ_discrete}
 use native.Mathlib.Omega.{arith}
-use lib.ListN.{length}
 use lib.Dec.{ltb, eqb}
 use borrow.Author.Tests.{ltb-true, eqb-false, eq-eqb, ne_eqb, not-true}
 use Rattle.plan.specs.declared.Piece.{Piece}

@@ -11,7 +11,7 @@ use borrow.Author.Tests.{eqb-true, eqb-false, ne_eqb}
 use Rattle.plan.specs.declared.Table.TheVariants.{Cores, Vcpus, Windows}
 use Rattle.plan.specs.declared.Found.{Found}
 use Rattle.plan.specs.declared.Found.TheVariants.{At, Nothing}
-use Rattle.plan.specs.Image.{rows, vcpu, window}
+use Rattle.plan.specs.Image.{rows, window}
 use Rattle.plan.specs.Questions.{window_core}
 use Rattle.plan.specs.Dispatch.{piece_at, window_at, on_core}
 use Rattle.guests.specs.Guests.{nothing, sight_of, sight, of_guest, by_kind}

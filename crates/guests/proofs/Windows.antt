@@ -6,7 +6,7 @@ use mathlib.Core.List.{List}
 use native.Mathlib.Omega.{arith}
 use native.Mathlib.Decide.{dec_lt}
 use Rattle.plan.specs.declared.Table.TheVariants.{Vcpus, Windows}
-use Rattle.plan.specs.Image.{shape, rows, core, vcpu, window}
+use Rattle.plan.specs.Image.{shape, rows, vcpu, window}
 use Rattle.plan.specs.Held.{Sound}
 use Rattle.plan.specs.Questions.{order_words, window_core, window_end, window_interval}
 use Rattle.guests.specs.Claim.{Carries, Alike}

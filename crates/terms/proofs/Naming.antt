@@ -4,7 +4,7 @@ use native.Mathlib.Nat.{div-le_self}
 use native.Mathlib.Omega.{arith}
 use mathlib.Core.List.{List}
 use Rattle.plan.specs.declared.Table.TheVariants.{Cores, Vcpus, Tasks, Windows, Links, Streams, Frames}
-use Rattle.plan.specs.Image.{rows, task, vcpu, window, link, stream, frame}
+use Rattle.plan.specs.Image.{rows, task, window, link, stream, frame}
 use Rattle.plan.specs.Questions.{core_of, window_core, overhead, send_ticks}
 use Rattle.plan.specs.Held.{Sound}
 

@@ -2,7 +2,6 @@ use mathlib.Core.Path.{refl, sym, ◌∙◌}
 use native.Mathlib.Omega.{arith}
 use Rattle.moves.specs.Lookups.{state_after}
 use Rattle.moves.proofs.Deciding.{not_last}
-use borrow.Author.Rules.{rules}
 use Rattle.moves.proofs.cycle_after.Goals as goal
 
 pub overflow_add-result : goal.overflow_add-result

@@ -1,10 +1,8 @@
 use mathlib.Core.Path.{refl, sym, ◌∙◌, ap}
-use borrow.Author.Tests.{not-false}
 use Rattle.plan.specs.declared.LaneState.{LaneState}
 use Rattle.plan.specs.declared.Stepped.{Stepped}
 use Rattle.moves.specs.Lookups.{decided}
 use Rattle.moves.proofs.Deciding.{fitting}
-use borrow.Author.Rules.{rules}
 use Rattle.moves.proofs.decide.Goals as goal
 
 pub returns-then-not-fits_table : goal.returns-then-not-fits_table

@@ -1,6 +1,5 @@
 use mathlib.Core.Path.{refl}
 use Rattle.moves.specs.Lookups.{ends_calendar}
-use borrow.Author.Rules.{rules}
 use Rattle.moves.proofs.ends_calendar.Goals as goal
 
 pub returns : goal.returns

@@ -1,6 +1,5 @@
 use mathlib.Core.Path.{refl}
 use Rattle.moves.specs.Lookups.{ends_cycle}
-use borrow.Author.Rules.{rules}
 use Rattle.moves.proofs.ends_cycle.Goals as goal
 
 pub returns : goal.returns

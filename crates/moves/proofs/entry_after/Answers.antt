@@ -1,6 +1,5 @@
 use mathlib.Core.Path.{refl}
 use Rattle.moves.specs.Lookups.{entry_after, state_after}
-use borrow.Author.Rules.{rules}
 use Rattle.moves.proofs.entry_after.Goals as goal
 
 pub returns-then-ends_cycle : goal.returns-then-ends_cycle

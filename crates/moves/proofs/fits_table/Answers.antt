@@ -1,6 +1,5 @@
 use mathlib.Core.Path.{refl}
 use Rattle.moves.specs.Lookups.{fits_table}
-use borrow.Author.Rules.{rules}
 use Rattle.moves.proofs.fits_table.Goals as goal
 
 pub returns : goal.returns

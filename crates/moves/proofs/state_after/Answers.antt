@@ -1,6 +1,5 @@
 use mathlib.Core.Path.{refl}
 use Rattle.moves.specs.Lookups.{state_after}
-use borrow.Author.Rules.{rules}
 use Rattle.moves.proofs.state_after.Goals as goal
 
 pub returns : goal.returns

@@ -1,6 +1,5 @@
 use mathlib.Core.Path.{refl}
 use Rattle.moves.specs.Lookups.{state_after}
-use borrow.Author.Rules.{rules}
 use Rattle.moves.proofs.tick_after.Goals as goal
 
 pub returns-then-ends_cycle : goal.returns-then-ends_cycle

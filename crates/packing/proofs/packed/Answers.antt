@@ -1,6 +1,5 @@
 use mathlib.Core.Path.{refl}
 use Rattle.plan.specs.Boundary.{answer_number}
-use borrow.Author.Rules.{rules}
 use Rattle.packing.proofs.packed.Goals as goal
 
 pub returns : goal.returns

@@ -5,7 +5,6 @@ use native.Mathlib.Nat.{mul-le-mul_right}
 use Rattle.plan.specs.declared.Shape.{Shape}
 use Rattle.plan.specs.Image.{table_end}
 use Rattle.tables.proofs.Shapes.{width_most}
-use borrow.Author.Rules.{rules}
 use Rattle.tables.proofs.end_of.Goals as goal
 
 -- src/lib.rt:275:43

@@ -6,7 +6,6 @@ use Rattle.plan.specs.declared.Shape.{Shape}
 use Rattle.plan.specs.Image.{shape, rows}
 use Rattle.tables.proofs.Shapes.{width_most}
 use Rattle.tables.proofs.Parts.{part_length, field_inside, field_word}
-use borrow.Author.Rules.{rules}
 use Rattle.tables.proofs.field_of.Goals as goal
 
 -- src/lib.rt:411:21

@@ -4,7 +4,6 @@ use native.Mathlib.Omega.{arith}
 use Rattle.plan.specs.declared.Shape.{Shape}
 use Rattle.plan.specs.Image.{word_at, trailer_at, trailer_bytes, tables, offset}
 use Rattle.tables.proofs.Shapes.{number_most}
-use borrow.Author.Rules.{rules}
 use Rattle.tables.proofs.offset_of.Goals as goal
 
 -- src/lib.rt:258:5

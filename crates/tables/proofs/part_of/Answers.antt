@@ -2,7 +2,6 @@ use Prim.Native.Nat.{◌*◌, ◌-◌}
 use mathlib.Core.Path.{◌≡◌, refl}
 use native.Mathlib.Omega.{arith}
 use Rattle.plan.specs.Image.{shape, rows, table_end, part}
-use borrow.Author.Rules.{rules}
 use Rattle.tables.proofs.part_of.Goals as goal
 
 -- src/lib.rt:400:5

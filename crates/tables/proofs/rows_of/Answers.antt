@@ -3,7 +3,6 @@ use native.Mathlib.Omega.{arith}
 use Rattle.plan.specs.declared.Shape.{Shape}
 use Rattle.plan.specs.Image.{word_at, trailer_bytes, tables, rows}
 use Rattle.tables.proofs.Shapes.{number_most}
-use borrow.Author.Rules.{rules}
 use Rattle.tables.proofs.rows_of.Goals as goal
 
 -- src/lib.rt:266:5

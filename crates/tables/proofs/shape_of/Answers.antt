@@ -1,6 +1,5 @@
 use mathlib.Core.Path.{sym, ap}
 use Rattle.plan.specs.Image.{shape}
-use borrow.Author.Rules.{rules}
 use Rattle.tables.proofs.shape_of.Goals as goal
 
 -- src/lib.rt:162:1

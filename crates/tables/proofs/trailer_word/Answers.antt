@@ -1,6 +1,5 @@
 use native.Mathlib.Omega.{arith}
 use Rattle.plan.specs.Image.{image}
-use borrow.Author.Rules.{rules}
 use Rattle.tables.proofs.trailer_word.Goals as goal
 
 -- src/lib.rt:234:17

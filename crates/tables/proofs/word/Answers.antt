@@ -2,7 +2,6 @@ use Prim.Native.Nat.{◌+◌}
 use mathlib.Core.Path.{refl}
 use native.Mathlib.Omega.{arith}
 use Rattle.plan.specs.Image.{word_at}
-use borrow.Author.Rules.{rules}
 use Rattle.tables.proofs.word.Goals as goal
 
 -- src/lib.rt:226:9

@@ -1,5 +1,4 @@
 use mathlib.Core.Path.{refl}
-use borrow.Author.Rules.{rules}
 use Rattle.tallies.proofs.raise.Goals as goal
 
 -- src/lib.rt:13:1

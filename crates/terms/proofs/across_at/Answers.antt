@@ -5,7 +5,6 @@ use Rattle.plan.specs.Questions.{frame_end}
 use Rattle.terms.proofs.Naming.{send_most}
 use Rattle.plan.specs.declared.Table.TheVariants.{Frames}
 use Rattle.plan.specs.Questions.{across}
-use borrow.Author.Rules.{rules}
 use Rattle.terms.proofs.across_at.Goals as goal
 
 -- src/lib.rt:137:31

@@ -1,7 +1,6 @@
 use mathlib.Core.Path.{refl, sym, ◌∙◌}
 use Rattle.terms.proofs.Naming.{window_core_below}
 use Rattle.terms.proofs.Charges.{pays_at_zero, pays_alone, keeps}
-use borrow.Author.Rules.{rules}
 use Rattle.terms.proofs.charge_of.Goals as goal
 
 -- src/lib.rt:125:13

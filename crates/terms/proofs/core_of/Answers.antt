@@ -1,7 +1,6 @@
 use mathlib.Core.Path.{refl}
 use Rattle.plan.specs.declared.Table.TheVariants.{Tasks}
 use Rattle.plan.specs.Questions.{core_of}
-use borrow.Author.Rules.{rules}
 use Rattle.terms.proofs.core_of.Goals as goal
 
 -- src/lib.rt:27:5

@@ -3,7 +3,6 @@ use Prim.Native.Nat.{◌^◌, ◌<◌}
 use native.Mathlib.Omega.{arith}
 use Rattle.terms.proofs.Products.{product_fits}
 use Rattle.plan.specs.Questions.{due}
-use borrow.Author.Rules.{rules}
 use Rattle.terms.proofs.due_of.Goals as goal
 
 -- src/lib.rt:60:5

@@ -1,13 +1,8 @@
-use Prim.Native.Nat.{ℕ, ◌≤◌, ◌-◌}
-use mathlib.Core.Path.{◌≡◌, refl, sym, subst, ◌∙◌}
+use Prim.Native.Nat.{◌≤◌, ◌-◌}
+use mathlib.Core.Path.{◌≡◌}
 use mathlib.Core.Bool.{false}
-use native.Mathlib.Omega.{arith}
-use native.Mathlib.Numerals.{add-one}
 use Rattle.plan.specs.Search.{any}
 use Rattle.plan.specs.Questions.{keeps_from}
-use Rattle.plan.specs.Image.{rows}
-use Rattle.plan.specs.declared.Table.TheVariants.{Windows}
-use Rattle.plan.proofs.Searching.{any_turn, any_stops}
 use Rattle.terms.proofs.follows_another.Given as goal
 
 abbrev pub invariant-loop-other : goal.invariant-loop-other

@@ -1,6 +1,5 @@
 use mathlib.Core.Path.{refl}
 use Rattle.plan.specs.Questions.{frame_end}
-use borrow.Author.Rules.{rules}
 use Rattle.terms.proofs.frame_end.Goals as goal
 
 -- src/lib.rt:124:1

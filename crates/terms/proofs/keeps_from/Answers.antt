@@ -1,6 +1,5 @@
 use mathlib.Core.Path.{refl}
 use Rattle.plan.specs.Questions.{keeps_from}
-use borrow.Author.Rules.{rules}
 use Rattle.terms.proofs.keeps_from.Goals as goal
 
 -- src/lib.rt:92:1

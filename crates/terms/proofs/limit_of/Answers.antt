@@ -1,7 +1,6 @@
 use mathlib.Core.Path.{refl}
 use Rattle.plan.specs.declared.Table.TheVariants.{Streams}
 use Rattle.plan.specs.Questions.{limit}
-use borrow.Author.Rules.{rules}
 use Rattle.terms.proofs.limit_of.Goals as goal
 
 -- src/lib.rt:178:5

@@ -1,7 +1,6 @@
 use mathlib.Core.Path.{refl}
 use Rattle.plan.specs.Questions.{node_of}
 use Rattle.terms.proofs.Naming.{core_below}
-use borrow.Author.Rules.{rules}
 use Rattle.terms.proofs.node_of.Goals as goal
 
 -- src/lib.rt:35:5

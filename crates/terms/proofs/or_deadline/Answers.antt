@@ -1,7 +1,6 @@
 use mathlib.Core.Path.{refl}
 use borrow.Author.Tests.{eq-eqb, ne_eqb}
 use Rattle.plan.specs.Questions.{or_deadline}
-use borrow.Author.Rules.{rules}
 use Rattle.terms.proofs.or_deadline.Goals as goal
 
 -- src/lib.rt:161:1

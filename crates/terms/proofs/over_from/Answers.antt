@@ -2,7 +2,6 @@ use mathlib.Core.Path.{refl}
 use native.Mathlib.Omega.{arith}
 use Rattle.plan.specs.declared.Table.TheVariants.{Frames}
 use Rattle.plan.specs.Questions.{over_from}
-use borrow.Author.Rules.{rules}
 use Rattle.terms.proofs.over_from.Goals as goal
 
 -- src/lib.rt:241:33

@@ -1,6 +1,5 @@
 use mathlib.Core.Path.{refl}
 use Rattle.plan.specs.declared.Table.TheVariants.{Streams, Frames}
-use borrow.Author.Rules.{rules}
 use Rattle.terms.proofs.payload_of.Goals as goal
 
 -- src/lib.rt:181:5

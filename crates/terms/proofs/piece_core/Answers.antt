@@ -1,7 +1,6 @@
 use mathlib.Core.Path.{refl}
 use Rattle.plan.specs.declared.Table.TheVariants.{Pieces}
 use Rattle.plan.specs.Questions.{piece_core}
-use borrow.Author.Rules.{rules}
 use Rattle.terms.proofs.piece_core.Goals as goal
 
 -- src/lib.rt:84:5

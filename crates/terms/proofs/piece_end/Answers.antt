@@ -1,6 +1,5 @@
 use mathlib.Core.Path.{refl}
 use Rattle.plan.specs.Questions.{piece_end}
-use borrow.Author.Rules.{rules}
 use Rattle.terms.proofs.piece_end.Goals as goal
 
 -- src/lib.rt:87:1

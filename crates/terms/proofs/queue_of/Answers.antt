@@ -1,7 +1,6 @@
 use mathlib.Core.Path.{refl}
 use Rattle.plan.specs.declared.Table.TheVariants.{Frames}
 use Rattle.plan.specs.Questions.{queue_of}
-use borrow.Author.Rules.{rules}
 use Rattle.terms.proofs.queue_of.Goals as goal
 
 -- src/lib.rt:232:5

@@ -1,6 +1,5 @@
 use mathlib.Core.Path.{refl}
 use Rattle.plan.specs.Questions.{overhead, send_ticks}
-use borrow.Author.Rules.{rules}
 use Rattle.terms.proofs.send_ticks.Goals as goal
 
 -- src/lib.rt:193:1

@@ -1,7 +1,6 @@
 use mathlib.Core.Path.{refl}
 use Rattle.plan.specs.declared.Table.TheVariants.{Streams}
 use Rattle.plan.specs.Questions.{stream_period}
-use borrow.Author.Rules.{rules}
 use Rattle.terms.proofs.stream_period.Goals as goal
 
 -- src/lib.rt:100:5

@@ -1,7 +1,6 @@
 use mathlib.Core.Path.{refl}
 use Rattle.plan.specs.Questions.{switch_ticks}
 use Rattle.terms.proofs.Naming.{core_below}
-use borrow.Author.Rules.{rules}
 use Rattle.terms.proofs.switch_ticks.Goals as goal
 
 -- src/lib.rt:51:5

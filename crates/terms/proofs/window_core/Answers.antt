@@ -1,7 +1,6 @@
 use mathlib.Core.Path.{refl}
 use Rattle.plan.specs.declared.Table.TheVariants.{Windows}
 use Rattle.plan.specs.Questions.{window_core}
-use borrow.Author.Rules.{rules}
 use Rattle.terms.proofs.window_core.Goals as goal
 
 -- src/lib.rt:60:5

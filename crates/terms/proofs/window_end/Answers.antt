@@ -1,6 +1,5 @@
 use mathlib.Core.Path.{refl}
 use Rattle.plan.specs.Questions.{window_end}
-use borrow.Author.Rules.{rules}
 use Rattle.terms.proofs.window_end.Goals as goal
 
 -- src/lib.rt:63:1

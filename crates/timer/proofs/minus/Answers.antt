@@ -1,4 +1,4 @@
-use Rattle.std.proofs.Common.{arith, rules}
+use Rattle.std.proofs.Common.{arith}
 use Rattle.timer.proofs.Counts.{is_minus}
 use Rattle.timer.proofs.minus.Goals as goal
 

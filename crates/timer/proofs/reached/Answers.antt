@@ -1,4 +1,4 @@
-use Rattle.std.proofs.Common.{refl, rules}
+use Rattle.std.proofs.Common.{refl}
 use Rattle.timer.specs.Registers.{reached}
 use Rattle.timer.proofs.reached.Goals as goal
 

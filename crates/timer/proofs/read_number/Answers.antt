@@ -1,4 +1,4 @@
-use Rattle.std.proofs.Common.{sym, refl, ◌∙◌, rules}
+use Rattle.std.proofs.Common.{sym, refl, ◌∙◌}
 use Rattle.timer.specs.Registers.{read_number}
 use Rattle.timer.proofs.read_number.Goals as goal
 

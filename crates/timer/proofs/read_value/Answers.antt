@@ -1,4 +1,4 @@
-use Rattle.std.proofs.Common.{refl, rules}
+use Rattle.std.proofs.Common.{refl}
 use Rattle.timer.specs.Registers.{read_value}
 use Rattle.timer.proofs.Accesses.{read_none}
 use Rattle.timer.proofs.read_value.Goals as goal

@@ -1,4 +1,4 @@
-use Rattle.std.proofs.Common.{refl, rules}
+use Rattle.std.proofs.Common.{refl}
 use Rattle.timer.specs.Registers.{reading}
 use Rattle.timer.proofs.reading.Goals as goal
 

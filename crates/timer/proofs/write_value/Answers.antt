@@ -1,4 +1,4 @@
-use Rattle.std.proofs.Common.{refl, rules}
+use Rattle.std.proofs.Common.{refl}
 use Rattle.timer.specs.Registers.{written}
 use Rattle.timer.proofs.Accesses.{written_none}
 use Rattle.timer.proofs.write_value.Goals as goal

@@ -1,0 +1,17 @@
+use Prim.Native.Nat.{ℕ, suc, ◌+◌, ◌-◌, ◌*◌, ◌≤◌, ◌<◌}
+use mathlib.Core.Path.{◌≡◌, refl, ap, ◌∙◌}
+use mathlib.Core.List.{List, flat_map}
+use native.Mathlib.Omega.{arith}
+use lib.ListN.{length}
+use Rattle.plan.specs.Dispatch.{lanes, table_of, tables_below}
+use Rattle.writing.specs.Stored.{stored}
+use Rattle.writing.specs.AllTables.{all_tables}
+use Rattle.writing.proofs.Storing.{stored_length}
+use Rattle.writing.proofs.AllTables.{below_next, below_inside, lanes_small, stored_next}
+use Rattle.writing.proofs.write_all.Given as goal
+
+abbrev pub invariant-loop-lane : goal.invariant-loop-lane
+invariant-loop-lane l = (l.lane ≤ lanes l.image) × ((l.at ≡ 4 * length (tables_below l.image l.lane)) × (l.bytes ≡ stored l.initial.bytes 0 (tables_below l.image l.lane)))
+
+abbrev pub decreases-loop-lane : goal.decreases-loop-lane
+decreases-loop-lane l = l.lanes - l.lane
