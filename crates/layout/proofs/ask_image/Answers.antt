@@ -1,7 +1,5 @@
 use mathlib.Core.Path.{sym, ◌∙◌}
-use borrow.Author.Tests.{not-true, not-false}
 use Rattle.layout.proofs.Wholes.{long_enough, no_1, no_2, no_3, no_4, yes_4}
-use borrow.Author.Rules.{rules}
 use Rattle.layout.proofs.ask_image.Goals as goal
 
 -- src/lib.rt:122:9

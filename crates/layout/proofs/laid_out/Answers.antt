@@ -1,6 +1,5 @@
 use mathlib.Core.Path.{refl}
 use Rattle.layout.specs.Tests.{laid_out}
-use borrow.Author.Rules.{rules}
 use Rattle.layout.proofs.laid_out.Goals as goal
 
 -- src/lib.rt:90:1

@@ -1,7 +1,6 @@
 use mathlib.Core.Path.{refl}
 use native.Mathlib.Omega.{arith}
 use Rattle.plan.specs.Image.{image}
-use borrow.Author.Rules.{rules}
 use Rattle.layout.proofs.points_back.Goals as goal
 
 -- src/lib.rt:58:17

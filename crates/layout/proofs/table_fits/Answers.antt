@@ -1,6 +1,5 @@
 use mathlib.Core.Path.{refl}
 use Rattle.layout.specs.Tests.{table_fits}
-use borrow.Author.Rules.{rules}
 use Rattle.layout.proofs.table_fits.Goals as goal
 
 -- src/lib.rt:62:1

@@ -1,11 +1,8 @@
-use Prim.Native.Nat.{ℕ, ◌+◌, ◌-◌, ◌≤◌}
-use mathlib.Core.Path.{◌≡◌, refl, sym, ap, ◌∙◌}
-use native.Mathlib.Omega.{arith}
-use borrow.Author.Tests.{not-true, not-false}
+use Prim.Native.Nat.{◌-◌, ◌≤◌}
+use mathlib.Core.Path.{◌≡◌}
 use lib.ListN.{drop}
-use Rattle.plan.specs.Image.{tables, table_end, trailer_at, trailer_bytes}
+use Rattle.plan.specs.Image.{tables}
 use Rattle.plan.specs.Questions.{laid}
-use Rattle.layout.proofs.Tables.{laid_on, laid_no, laid_end}
 use Rattle.tables.specs.Tables.{table_count}
 use Rattle.layout.proofs.tables_fit.Given as goal
 

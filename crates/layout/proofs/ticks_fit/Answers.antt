@@ -1,6 +1,5 @@
 use mathlib.Core.Path.{refl}
 use Rattle.layout.specs.Tests.{ticks_fit}
-use borrow.Author.Rules.{rules}
 use Rattle.layout.proofs.ticks_fit.Goals as goal
 
 -- src/lib.rt:98:1

@@ -3,7 +3,6 @@ use mathlib.Core.Path.{refl, sym, ap, subst, ◌∙◌}
 use Rattle.plan.specs.declared.Table.{Table}
 use Rattle.plan.specs.Image.{rows}
 use Rattle.plan.specs.Questions.{names}
-use borrow.Author.Rules.{rules}
 use Rattle.names.proofs.row_names.Goals as goal
 
 -- src/lib.rt:54:25

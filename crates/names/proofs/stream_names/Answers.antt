@@ -1,6 +1,5 @@
 use mathlib.Core.Path.{refl}
 use Rattle.plan.specs.Questions.{names}
-use borrow.Author.Rules.{rules}
 use Rattle.names.proofs.stream_names.Goals as goal
 
 -- src/lib.rt:19:1
