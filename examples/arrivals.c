@@ -12,7 +12,7 @@
  * Ends with status 0 for an accepted plan and frame, 1 for a refusal, 2 for a
  * wrong call or a file that cannot be read.
  *
- *     gcc -std=c99 -Iinclude -o arrivals examples/arrivals.c target/staticlib/libreaperdecade.a
+ *     gcc -std=c99 -Iinclude -o arrivals examples/arrivals.c crates/reaperdecade/out/libreaperdecade.a
  */
 #include <errno.h>
 #include <inttypes.h>

@@ -6,7 +6,7 @@
  * Reads an accepted plan image from FILE and builds the tables of all its
  * lanes, lane by lane or all in one call. Prints how many lanes and words.
  *
- *     gcc -std=c99 -O2 -Iinclude -o build_cost examples/build_cost.c target/staticlib/libreaperdecade.a
+ *     gcc -std=c99 -O2 -Iinclude -o build_cost examples/build_cost.c crates/reaperdecade/out/libreaperdecade.a
  *     valgrind --tool=callgrind ./build_cost all FILE
  *     callgrind_annotate --inclusive=yes callgrind.out.*
  */

@@ -19,7 +19,7 @@
  * of PLACE or the making of the draft was refused, and 2 for a wrong call or a
  * file that cannot be read.
  *
- *     gcc -std=c99 -Iinclude -o draft examples/draft.c target/staticlib/libreaperdecade.a
+ *     gcc -std=c99 -Iinclude -o draft examples/draft.c crates/reaperdecade/out/libreaperdecade.a
  */
 #include <errno.h>
 #include <inttypes.h>

@@ -8,7 +8,7 @@
  * place 0, moves that piece to where it is, removes it and adds it again.
  * Prints the number that each call gives.
  *
- *     gcc -std=c99 -O2 -Iinclude -o draft_cost examples/draft_cost.c target/staticlib/libreaperdecade.a
+ *     gcc -std=c99 -O2 -Iinclude -o draft_cost examples/draft_cost.c crates/reaperdecade/out/libreaperdecade.a
  *     valgrind --tool=callgrind --toggle-collect=rd_draft_move ./draft_cost FILE
  *
  * bench/run does this for every call.

@@ -16,7 +16,7 @@
  * wrong call or a file that cannot be read, 3 where the library wrote what it
  * should not have written.
  *
- *     gcc -std=c99 -Iinclude -o gates examples/gates.c target/staticlib/libreaperdecade.a
+ *     gcc -std=c99 -Iinclude -o gates examples/gates.c crates/reaperdecade/out/libreaperdecade.a
  */
 #include <errno.h>
 #include <inttypes.h>

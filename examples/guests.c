@@ -25,7 +25,7 @@
  * that: tools/plan compare does, and says which rows differ. Where windows
  * differ, their rows may do so too, and rows are what this program compares.
  *
- *     gcc -std=c99 -Iinclude -o guests examples/guests.c target/staticlib/libreaperdecade.a
+ *     gcc -std=c99 -Iinclude -o guests examples/guests.c crates/reaperdecade/out/libreaperdecade.a
  */
 #include <inttypes.h>
 #include <stdio.h>

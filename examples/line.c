@@ -9,7 +9,7 @@
  * 0 for an accepted plan, 1 for a refused one and 2 for anything else, a byte
  * changed that is not the line's among it.
  *
- *     gcc -std=c99 -Iinclude -o line examples/line.c target/staticlib/libreaperdecade.a
+ *     gcc -std=c99 -Iinclude -o line examples/line.c crates/reaperdecade/out/libreaperdecade.a
  *
  * bench/run counts the instructions of rd_line by it.
  */

@@ -17,7 +17,7 @@
  * image's length, 0 where there is none, and asks rd_check about its bytes.
  * OUT gets the joined image, a refused one too.
  *
- *     gcc -std=c99 -Iinclude -o load_tool examples/load_tool.c target/staticlib/libreaperdecade.a
+ *     gcc -std=c99 -Iinclude -o load_tool examples/load_tool.c crates/reaperdecade/out/libreaperdecade.a
  */
 #include <errno.h>
 #include <inttypes.h>

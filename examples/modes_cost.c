@@ -10,7 +10,7 @@
  * itself: first_step for steps that show tick 0 and take a request, later_step
  * for the others, and plain_step for those of rd_step_all.
  *
- *     gcc -std=c99 -O2 -Iinclude -o modes_cost examples/modes_cost.c target/staticlib/libreaperdecade.a
+ *     gcc -std=c99 -O2 -Iinclude -o modes_cost examples/modes_cost.c crates/reaperdecade/out/libreaperdecade.a
  *     valgrind --tool=callgrind --toggle-collect=later_step ./modes_cost examples/plans/tunnel.image 100
  *
  * It prints how many calls of each there were, with the number of lanes. The

@@ -18,7 +18,7 @@
  * call or a file that cannot be read, 3 where the library did what it should not
  * have done.
  *
- *     gcc -std=c99 -Iinclude -o shift examples/shift.c target/staticlib/libreaperdecade.a
+ *     gcc -std=c99 -Iinclude -o shift examples/shift.c crates/reaperdecade/out/libreaperdecade.a
  */
 #include <errno.h>
 #include <inttypes.h>

@@ -7,7 +7,7 @@
  * writes of the register at ADDRESS, which may be none, and asks whether the
  * interrupt is raised.
  *
- *     gcc -std=c99 -O2 -Iinclude -o timer_cost examples/timer_cost.c target/staticlib/libreaperdecade.a
+ *     gcc -std=c99 -O2 -Iinclude -o timer_cost examples/timer_cost.c crates/reaperdecade/out/libreaperdecade.a
  *     valgrind --tool=callgrind --toggle-collect=rd_timer_write ./timer_cost 12000 8
  *
  * The instructions counted, over CALLS, are those of a call.

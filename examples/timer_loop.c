@@ -25,7 +25,7 @@
  * A refused plan is told with status 1, as a refused step would be; a wrong
  * call, or a file that cannot be read, has status 2.
  *
- *     gcc -std=c99 -Iinclude -o timer_loop examples/timer_loop.c target/staticlib/libreaperdecade.a
+ *     gcc -std=c99 -Iinclude -o timer_loop examples/timer_loop.c crates/reaperdecade/out/libreaperdecade.a
  */
 #include <errno.h>
 #include <inttypes.h>

@@ -2,7 +2,7 @@
 import subprocess
 from dataclasses import dataclass, field
 
-from .crates import graph_of
+from .crates import lines_of
 
 
 class NoChange(Exception):
@@ -23,8 +23,8 @@ def since(root, revision):
     paths = [path for path in (differ + unknown).split("\0") if path]
     change = of_paths(paths)
     if "crates.txt" in paths:
-        before, now = graph_of(_git(root, "show", f"{revision}:crates.txt")), graph_of((root / "crates.txt").read_text())
-        change.edited |= {crate for crate in now if before.get(crate) != now[crate]}
+        before = list(lines_of(_git(root, "show", f"{revision}:crates.txt")))
+        change.edited |= {line[0] for line in lines_of((root / "crates.txt").read_text()) if line not in before}
     return change
 
 
@@ -34,7 +34,7 @@ def of_paths(paths):
         match path.split("/"):
             case ["crates", crate, "src" | "specs" | "proofs", *_]:
                 change.edited.add(crate)
-            case ["crates", crate, "stdin" | "stdout" | "args" | "data", *_]:
+            case ["crates", crate, "stdin" | "stdout" | "args" | "status" | "data", *_]:
                 change.run.add(crate)
             case ["crates", crate, "must-fail", file] if file.endswith(".edit"):
                 change.labels.add(f"{crate}/{file.removesuffix('.edit')}")

@@ -1,31 +1,27 @@
 """The command .ci/touched."""
 import argparse
-import os
-import re
 import signal
-import subprocess
 import sys
 import time
 from collections import Counter
-from concurrent.futures import ThreadPoolExecutor
 from pathlib import Path
 
 from .change import Change, NoChange, since
 from .crates import graph_of, in_order, with_above
 from .edits import BadEdit, all_edits, applied
-from .trials import Trials
-from .verdicts import REFUSED, verdict
+from .proving import laid_out, proved, tried
+from .verdicts import NOT_TRIED, REFUSED, Verdict, verdicts
 
 ROOT = Path(__file__).resolve().parents[2]
 
 ABOUT = """Proves what a change touches and tries its must-fail edits, so that nobody runs the whole gate to find a broken edit.
 
-1. Every edit of every crate: its file is there and holds each old text exactly once. And rt fmt --check.
-2. rt check on the crates that changed and on those above them.
-3. Of the crates whose src/, specs/, proofs/ or line in crates.txt changed, every edit; of the others those that are new or
-   changed. Each is tried by the quick loop (rt dev) on a copy, RT_JOBS at a time (default 2)."""
+1. Every edit of every crate: its file is there and holds each old text exactly once. And the layout of rt fmt, of every crate.
+2. rt check in the crates that changed and in those above them, lowest first; rt run of programs, which must write what they have to.
+3. rt must-fail on the crates whose src/, specs/, proofs/ or line in crates.txt changed, and on those of which an edit is new or
+   changed. What was tried before and stands on nothing that changed is told again, and not tried again."""
 
-NOT_THE_VERDICT = "a working result: an edit is tried over what rt dev knows of its crate. The gate (.ci/run) is the verdict."
+NOT_THE_VERDICT = "a working result: proofs and edits begin with what earlier checks kept. The gate (.ci/run) is the verdict."
 
 
 class Stop(Exception):
@@ -59,7 +55,6 @@ def parser():
     top.add_argument("revision", nargs="?", default="HEAD", help="the change since then, untracked files included (default HEAD)")
     top.add_argument("--crates", nargs="+", metavar="NAME", help="as if these crates had changed, whatever git says")
     top.add_argument("--no-above", action="store_true", help="do not prove the crates above")
-    top.add_argument("--only", nargs="+", metavar="LABEL", help="try only these edits, of any crate (LABEL or CRATE/LABEL)")
     return top
 
 
@@ -69,22 +64,22 @@ def run(options):
     unlisted = [name for name in options.crates or () if name not in graph]
     if unlisted:
         raise Stop(f"crates.txt does not list {', '.join(unlisted)}", 2)
-    tried = to_try(change, edits, options.only)
-    names = in_order(graph, to_prove(graph, change, tried, options.no_above))
+    trying = to_try(change, edits)
+    names = in_order(graph, to_prove(graph, change, trying, options.no_above))
     crates = ", ".join(in_order(graph, change.edited | change.run)) or "no crate"
     say(f"changed: {crates}; {counted(len(change.labels), 'edit')}")
     say(f"to prove, with what they name: {', '.join(names) or 'nothing'}")
-    say(f"to try: {counted(len(tried), 'edit')}{listed(tried)}")
+    say(f"to try: {counted(len(trying), 'edit')}{listed(trying)}")
 
-    clock, before = Clock(), state()
+    clock = Clock()
     look_at_texts(graph, edits)
     clock.lap("texts")
     prove(names)
     clock.lap("proofs")
-    failed = try_edits(tried, before)
+    failed = try_edits(in_order(graph, {edit.crate for edit in trying}), trying)
     clock.lap("edits")
 
-    say(f"{len(tried) - len(failed)} of {counted(len(tried), 'edit')} refused for what it says{''.join(failed)}")
+    say(f"{len(trying) - len(failed)} of {counted(len(trying), 'edit')} refused for what it says{''.join(failed)}")
     say(f"seconds: {clock}")
     say(NOT_THE_VERDICT)
     return 1 if failed else 0
@@ -92,19 +87,16 @@ def run(options):
 
 # ---- what to do
 
-def to_try(change, edits, only):
-    if only is None:
-        return [edit for edit in edits if edit.crate in change.edited or edit.name in change.labels]
-    unknown = [name for name in only if not any(edit.is_called(name) for edit in edits)]
-    if unknown:
-        raise Stop(f"there is no edit {', '.join(unknown)}", 2)
-    return [edit for edit in edits if any(edit.is_called(name) for name in only)]
+def to_try(change, edits):
+    """All edits of a crate that changed, and all of one with an edit that is new or changed: rt does not try again what it knows."""
+    crates = change.edited | {label.split("/")[0] for label in change.labels}
+    return [edit for edit in edits if edit.crate in crates]
 
 
-def to_prove(graph, change, tried, no_above):
+def to_prove(graph, change, trying, no_above):
     """The changed crates, those above them, and those whose edits are tried: what these show rests on a proved crate."""
     changed = change.edited | change.run
-    return (changed if no_above else with_above(graph, changed)) | {edit.crate for edit in tried}
+    return (changed if no_above else with_above(graph, changed)) | {edit.crate for edit in trying}
 
 
 # ---- the steps
@@ -118,76 +110,44 @@ def look_at_texts(graph, edits):
             applied(ROOT, edit)
         except BadEdit as why:
             bad.append(f"{edit.name}: BAD EDIT: {why}")
-    layout = subprocess.run(["rt", "fmt", "--check"], cwd=ROOT)
+    layout = laid_out(ROOT, graph)
     for line in bad:
         print(line)
     if bad:
         raise Stop(f"{counted(len(bad), 'edit')} of {len(edits)} cannot be applied")
-    if layout.returncode:
+    if not layout.well:
+        print(layout.said, end="")
         raise Stop("not every file is in the layout of rt fmt")
     say(f"all {len(edits)} edits can be applied, and every file is in the layout of rt fmt")
 
 
 def prove(names):
-    """Shows rt's line of a proved crate, and all that rt says of any other."""
-    if not names:
-        return
-    both = {"stdout": subprocess.PIPE, "stderr": subprocess.STDOUT}
-    rt = subprocess.Popen(["rt", "check", *names], cwd=ROOT, text=True, errors="replace", **both)
-    heard = []
-    for line in rt.stdout:
-        heard.append(line)
-        if line.startswith("rt: "):
-            print(news(line, heard), end="", flush=True)
-            heard = []
-    print("".join(heard), end="")
-    if rt.wait():
-        raise Stop("not all is proved, so no edit was tried")
+    """Says of each crate that it is proved, and shows all that rt says of the first that is not."""
+    for name in names:
+        run = proved(ROOT / "crates" / name)
+        if not run.well:
+            print(run.said, end="")
+            raise Stop(f"{name} is not proved, or not run as it must be, so no edit was tried")
+        print(f"{name} proved, {run.seconds:.0f} s", flush=True)
 
 
-def news(line, heard):
-    """What to show of a crate: rt's line ends all that was heard of it."""
-    if "(unchanged since" in line:
-        return ""
-    return line if re.match(r"rt: (\w+ proved \(|\w+ ran|ok,)", line) else "".join(heard)
-
-
-def try_edits(edits, before):
-    """Tries edits and tells of each. Returns a line for each that was not refused for what it says."""
-    if not edits:
-        return []
+def try_edits(names, edits):
+    """Tries the edits of some crates and tells of each. Returns a line for each that was not refused for what it says."""
     failed = []
-    with Trials(ROOT) as trials:
-        if state() != before:
-            raise Stop("the crates have changed since they were proved: start again")
-        for crate, known in in_turn(trials.ready, sorted({edit.crate for edit in edits})):
-            if known.status:
-                raise Stop(f"{known.said}{crate} is proved by rt check and not by rt dev")
-            print(f"{crate}: ready, {known.seconds:.0f} s", flush=True)
-        for edit, tried in in_turn(trials.tried, edits):
-            found = verdict(tried.status, tried.said)
-            line = f"{edit.name}: {found.kind}, {tried.seconds:.0f} s, {found.reason}"
+    for name in names:
+        run = tried(ROOT, name)
+        told = verdicts(run.said)
+        print(f"{name}: its edits tried, {run.seconds:.0f} s", flush=True)
+        for edit in [edit for edit in edits if edit.crate == name]:
+            found = told.get(edit.name) or Verdict(NOT_TRIED, "rt must-fail says nothing of it")
+            line = f"{edit.name}: {found.kind}, {found.reason}"
             print(line if found.kind == REFUSED else f"*** {line}", flush=True)
             if found.kind != REFUSED:
                 failed.append(f"\n  {edit.name}: {found.kind}")
-    say(f"what the prover said of an edit: {trials.logs.relative_to(ROOT)}/CRATE/LABEL.log")
+        if not run.well and not any(f" {name}/" in line for line in failed):
+            print(run.said, end="")
+            failed.append(f"\n  {name}/: rt must-fail failed")
     return failed
-
-
-def in_turn(work, items):
-    """Each item with what the work made of it, in order, some at a time."""
-    with ThreadPoolExecutor(int(os.environ.get("RT_JOBS") or 2)) as pool:
-        try:
-            yield from zip(items, pool.map(work, items))
-        except BaseException:
-            pool.shutdown(cancel_futures=True)
-            raise
-
-
-def state():
-    """What differs where a file of a crate was changed."""
-    files = [ROOT / "crates.txt", *(ROOT / "crates").rglob("*")]
-    return {file: (file.stat().st_mtime_ns, file.stat().st_size) for file in files if file.is_file()}
 
 
 # ---- words

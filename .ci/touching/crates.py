@@ -3,12 +3,16 @@
 
 def graph_of(text):
     """Each crate with the names on its line, libraries of the kit among them, in the order of the lines."""
-    graph = {}
+    return {name: named for name, _, named in lines_of(text)}
+
+
+def lines_of(text):
+    """Name, kind (as `staticlib`) and named crates of each line."""
     for line in text.splitlines():
-        name, colon, named = line.partition("#")[0].partition(":")
-        if colon:
-            graph[name.strip()] = named.split()
-    return graph
+        head, _, named = line.partition("#")[0].partition(":")
+        if head.split():
+            name, *kind = head.split()
+            yield name, kind, named.split()
 
 
 def with_above(graph, names):

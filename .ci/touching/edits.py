@@ -15,9 +15,6 @@ class Edit:
     def name(self):
         return f"{self.crate}/{self.label}"
 
-    def is_called(self, name):
-        return name in (self.name, self.label)
-
 
 def all_edits(root):
     """Every edit of a repository, by name."""

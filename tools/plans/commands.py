@@ -26,7 +26,7 @@ from .troubles import BadValue, Trouble, meant, trouble
 from .writing import write_text
 
 
-CHECKER = os.environ.get("PLANCHECK") or str(Path(__file__).resolve().parents[2] / "target/bin/plancheck")
+CHECKER = os.environ.get("PLANCHECK") or str(Path(__file__).resolve().parents[2] / "crates/plancheck/out/plancheck")
 
 
 def main(arguments):
@@ -106,7 +106,7 @@ def _takes_order(command):
 
 
 def _asks_checker(command, default):
-    otherwise = "without it, $PLANCHECK, then target/bin/plancheck" if default else "without it, none"
+    otherwise = "without it, $PLANCHECK, then crates/plancheck/out/plancheck" if default else "without it, none"
     command.add_argument("--plancheck", metavar="PATH", default=default, help=f"the checker to ask; {otherwise}")
 
 

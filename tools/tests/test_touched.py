@@ -9,19 +9,20 @@ from support import ROOT
 from touching.change import of_paths, since
 from touching.crates import graph_of, in_order, with_above
 from touching.edits import BadEdit, all_edits, applied, changed, replacements
-from touching.verdicts import BAD, NOT_REFUSED, REFUSED, SHAPE_ONLY, verdict
+from touching.verdicts import BAD, LIMIT_ONLY, NOT_REFUSED, NOT_TRIED, REFUSED, SHAPE_ONLY, Verdict, verdict, verdicts
 
 CRATES = """# a comment
 low:
 middle: low io   # io is the kit's
-high: middle
+high staticlib: middle
 aside: low
+alone:
 """
 
 
 class Crates(unittest.TestCase):
     def test_a_line_names_crates(self):
-        self.assertEqual(graph_of(CRATES), {"low": [], "middle": ["low", "io"], "high": ["middle"], "aside": ["low"]})
+        self.assertEqual(graph_of(CRATES), {"low": [], "middle": ["low", "io"], "high": ["middle"], "aside": ["low"], "alone": []})
 
     def test_above_is_direct_or_not(self):
         graph = graph_of(CRATES)
@@ -37,7 +38,7 @@ class Crates(unittest.TestCase):
 class Changes(unittest.TestCase):
     def test_parts_of_a_crate(self):
         change = of_paths([
-            "crates/a/src/lib.rt", "crates/b/specs/B.antt", "crates/c/proofs/f/Proof.antt", "crates/d/stdout",
+            "crates/a/src/lib.rt", "crates/b/specs/B.antt", "crates/c/proofs/f/Answers.antt", "crates/d/stdout",
             "crates/e/must-fail/wrong.edit", "crates/e/must-fail/README", "docs/X.md", "crates.txt",
         ])
         self.assertEqual((change.edited, change.run, change.labels), ({"a", "b", "c"}, {"d"}, {"e/wrong"}))
@@ -52,7 +53,7 @@ class Changes(unittest.TestCase):
             git(root, "-c", "user.name=a", "-c", "user.email=a@b", "commit", "--quiet", "--message", "first")
             self.assertEqual(vars(since(root, "HEAD")), {"edited": set(), "run": set(), "labels": set()})
             put(root, {
-                "crates.txt": CRATES.replace("high: middle", "high: middle low"),
+                "crates.txt": CRATES.replace("high staticlib: middle", "high: middle"),
                 "crates/aside/src/lib.rt": "2", "crates/middle/specs/New.antt": "untracked", "crates/low/must-fail/x.edit": "2",
             })
             change = since(root, "HEAD")
@@ -110,50 +111,39 @@ class Edits(unittest.TestCase):
 
 
 class Verdicts(unittest.TestCase):
-    def told(self, kind, reason, *lines, status=1, end="logic=not-proved"):
-        found = verdict(status, "\n".join([*lines, end, ""]))
-        self.assertEqual(found.kind, kind)
-        self.assertIn(reason, found.reason)
+    def told(self, words, kind, reason):
+        self.assertEqual(verdict(words), Verdict(kind, reason))
 
-    def test_the_first_error_that_does_not_follow_from_another(self):
-        follows = "proofs/f/Proof.antt:9:5: error: `f-spec`: `close` was not admitted (it has holes), so this cannot be checked"
-        wrong = "proofs/g/Proof.antt:5:38: error: `returns`: the two types differ"
-        need = "note: src/lib.rt:6:1: it is not proved that the index is below 2"
-        self.told(REFUSED, "proofs/g/Proof.antt:5:38: `returns`: the two types differ", follows, need, wrong)
-        self.told(REFUSED, "src/lib.rt:6:1: it is not proved", follows, need)
-        self.told(REFUSED, "proofs/f/Proof.antt:9:5", follows)
+    def test_refused(self):
+        self.told("refused, as it must be: note: src/lib.rt:6:1: it is not proved", REFUSED, "note: src/lib.rt:6:1: it is not proved")
+        self.told("refused, as it must be", REFUSED, "no reason told")
+        self.told("refused, as it must be: src/lib.rt:6:1: error: `f` (once)", REFUSED, "src/lib.rt:6:1: error: `f` (once)")
 
-    def test_names_that_are_not_there_and_texts_that_cannot_be_read(self):
-        for words in (
-            "`mul`: `tie.Need-mul`: module `Tie` has no `Need-mul` that can be named from here",
-            "module `specs.Tallies` has no `Kept` that can be named from here",
-            "`latest`: `maxx` is not in scope; did you mean `max`?",
-            "`returns`: record `lts.Start` has no field `greater`",
-            "this line starts at column 1, at or left of the enclosing block's column 1",
-        ):
-            with self.subTest(words=words):
-                later = "proofs/g/Proof.antt:1:2: error: `x`: the types differ"
-                self.told(SHAPE_ONLY, words[:20], f"proofs/f/Proof.antt:1:2: error: {words}", later)
+    def test_a_refusal_that_says_little_of_the_contract(self):
+        shape = "(only because a proof file names what the edit took away, so this says little of the contract: change a value and keep the names)"
+        limit = "(only by a limit of the prover, which gave no verdict, so this says less of the contract: choose a change that it refuses sooner)"
+        self.told(f"refused, as it must be {shape}: proofs/f/Answers.antt:1:2: error", SHAPE_ONLY, "proofs/f/Answers.antt:1:2: error")
+        self.told(f"refused, as it must be {limit}: src/lib.rt:1:2: error", LIMIT_ONLY, "src/lib.rt:1:2: error")
 
-    def test_a_clause_that_is_no_assertion(self):
-        self.told(SHAPE_ONLY, "src/lib.rt:7:26", "src/lib.rt:7:26: error: `ensures-1`: the two types are `ℕ` and `ℕ → ℕ`")
+    def test_not_refused_bad_and_not_tried(self):
+        self.told("NOT REFUSED: the crate is still proved with this edit", NOT_REFUSED, "the crate is still proved with this edit")
+        self.told("BAD EDIT: there is no file src/x.rt", BAD, "there is no file src/x.rt")
+        self.told("NOT TRIED: its check was killed", NOT_TRIED, "its check was killed")
+        self.told("something new", NOT_TRIED, "something new")
 
-    def test_a_function_that_the_edit_leaves_without_a_proof(self):
-        self.told(SHAPE_ONLY, "fn a::b: no proof", "fn a::b: no proof: expected `b-spec`; the borrow checker does not cover it yet")
-
-    def test_not_refused(self):
-        self.told(NOT_REFUSED, "still proved", status=0, end="logic=proved functions=2")
-
-    def test_what_the_prover_does_not_see(self):
-        self.told(BAD, "src/lib.rt:1:2: cannot find `x`", "src/lib.rt:1:2: error[unknown-name]: cannot find `x`", end="")
-        self.told(BAD, "rattle: no verdict", status=3, end="rattle: no verdict: out of memory")
+    def test_each_edit_by_its_name(self):
+        said = """rt: low: 1 of its 2 must-fail edits were tried by an earlier run
+rt: must-fail low/a_b.edit: refused, as it must be: x
+rt: must-fail low/c.edit: BAD EDIT: it did not reach the prover; the first lines of what it said:
+src/lib.rt:1:2: error[unknown-name]: cannot find `x`
+rt: something else
+of which this is more
+"""
+        reason = "it did not reach the prover; the first lines of what it said: src/lib.rt:1:2: error[unknown-name]: cannot find `x`"
+        self.assertEqual(verdicts(said), {"low/a_b": Verdict(REFUSED, "x"), "low/c": Verdict(BAD, reason)})
 
     def test_a_reason_is_a_short_line(self):
-        lines = ["proofs/f/Proof.antt:1:2: error: `x`: as printed, the two types differ where one has `1`", "  (expected)"]
-        self.told(REFUSED, "`x`: as printed, the two types differ where one has `1` (expected)", *lines)
-        lines += ["  computed as far as they go, the two types differ only where one has `c .before .before .row`", "  (found)"]
-        self.told(REFUSED, ": `x`: computed as far as they go, the two types differ only where one has `c .. .row` (found)", *lines)
-        self.assertLess(len(verdict(1, f"{lines[0]} {'long ' * 99}\nlogic=not-proved\n").reason), 240)
+        self.assertLess(len(verdict("refused, as it must be: " + "long " * 99).reason), 240)
 
 
 def put(root, files):

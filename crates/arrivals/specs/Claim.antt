@@ -44,7 +44,7 @@ RunsArrive =
     (s : List ℕ) (c : ℕ) (ahead : ℕ → ℕ) (shows : ℕ → List Shown) (delay : ℕ → ℕ → ℕ) (n : ℕ)
     → answer_of s ≡ accepted → InBounds s delay → Kept s c ahead shows delay n → RunArrives s c ahead shows delay n
 
--- In lent bytes, of which `arrivalNumber` is the number that a C caller gets: 0 exactly where the ticks are given and two words are lent; else the answer of
+-- In lent bytes, of which `arrival_number` is the number that a C caller gets: 0 exactly where the ticks are given and two words are lent; else the answer of
 -- before, or 26. After 0 the bytes, read as words, hold the ticks and then what they held, and no byte past the eighth has changed, not even in a part
 -- of a word; after any other number no byte has.
 pub record Lends (s : List ℕ) (f : ℕ) (b : List ℕ) : Type 0 where

@@ -10,7 +10,7 @@ use Rattle.cursors.specs.declared.Near.{Near}
 use Rattle.cursors.specs.declared.Near.TheVariants.{Taken, Free}
 
 module _ (s : List ℕ) where
-  -- does row i take up tick t of place c; the row that does. `piece_at`, `windowAt` and `frame_at` are this, of each kind of row.
+  -- does row i take up tick t of place c; the row that does. `piece_at`, `window_at` and `frame_at` are this, of each kind of row.
   unfoldable pub covers : Occupant → ℕ → ℕ → ℕ → Bool
   covers o c t i = eqb (place_of s o i) c && leb (from_of s o i) t && ltb t (to_of s o i)
 

@@ -1,6 +1,6 @@
 -- Worked cases of drafts (paper 02, request 6), over cases A and B: one table, proved by one computation. The sums over the words of a draft run
 -- over 2,048 places of a long list and do not compute in reasonable time; those over the pieces do, and that every call on words gives
--- the same is `totals-kept`.
+-- the same is `totals_kept`.
 use Rattle.std.specs.Prelude.{ℕ, ◌+◌, ◌*◌, ◌≡◌, refl, List, ◌∷◌, ◌++◌, map, [], Bool, true, false, cond, ◌&&◌, set, replicate, leb, eqb}
 use Rattle.plan.specs.declared.Piece.{Piece}
 use Rattle.plan.specs.Search.{sum}

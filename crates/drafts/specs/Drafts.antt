@@ -1,6 +1,6 @@
 -- A draft (paper 02, request 6): its words, the sums over its pieces, and question 33.
 -- Word 0 is H, 1 the number of cores, 2 the number of tasks. A row of two words for each core, of three for each task and of six for each
--- place follow, at `coreAt`, `taskAt`, `placeAt`. Further words, and rows past their number, say nothing.
+-- place follow, at `core_at`, `task_at`, `place_at`. Further words, and rows past their number, say nothing.
 use Rattle.std.specs.Prelude.{ℕ, ◌+◌, ◌*◌, ◌/◌, ◌%◌, Bool, not, ◌&&◌, ◌||◌, cond, List, length, get_or, ltb, leb, eqb}
 use Rattle.plan.specs.declared.Piece.{Piece}
 use Rattle.plan.specs.Search.{all, sum, count}

@@ -1,4 +1,4 @@
--- The pass answers 33: what its loops find is what `isDraft` asks.
+-- The pass answers 33: what its loops find is what `is_draft` asks.
 use Prim.Native.Nat.{ℕ, zero, suc, ◌+◌, ◌≤◌, ◌<◌}
 use mathlib.Core.Path.{◌≡◌, refl, sym, ap, ◌∙◌, subst}
 use mathlib.Core.Logic.{◌≢◌, ◌⊎◌, inl, inr}
