@@ -1,6 +1,5 @@
 use Rattle.texts.specs.Printed.{line, answer_line}
 use Rattle.lines.proofs.Storing.{put_more}
-use borrow.Author.Rules.{rules}
 use Rattle.lines.proofs.put_answer.Goals as goal
 
 pub returns : goal.returns

@@ -1,7 +1,6 @@
 use native.Mathlib.Omega.{arith}
 use Rattle.texts.specs.Printed.{ended}
 use Rattle.lines.proofs.Storing.{put_one, put_more}
-use borrow.Author.Rules.{rules}
 use Rattle.lines.proofs.put_number.Goals as goal
 
 pub overflow_add-result : goal.overflow_add-result

@@ -7,7 +7,6 @@ use Rattle.plan.specs.Image.{rows}
 use Rattle.plan.specs.Search.{rises}
 use Rattle.plan.specs.Questions.{order_words, in_order}
 use Rattle.order.proofs.Order.{order_asked}
-use borrow.Author.Rules.{rules}
 use Rattle.order.proofs.row_rises.Goals as goal
 
 -- src/lib.rt:71:9

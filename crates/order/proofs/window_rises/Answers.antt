@@ -1,7 +1,6 @@
 use mathlib.Core.Path.{refl}
 use Rattle.plan.specs.Search.{rises}
 use Rattle.plan.specs.Questions.{order_words}
-use borrow.Author.Rules.{rules}
 use Rattle.order.proofs.window_rises.Goals as goal
 
 -- src/lib.rt:24:1

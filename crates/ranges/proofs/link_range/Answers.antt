@@ -1,6 +1,5 @@
 use mathlib.Core.Path.{refl}
 use Rattle.plan.specs.Questions.{in_range}
-use borrow.Author.Rules.{rules}
 use Rattle.ranges.proofs.link_range.Goals as goal
 
 -- src/lib.rt:44:1

@@ -1,6 +1,5 @@
 use mathlib.Core.Path.{refl}
 use Rattle.plan.specs.Questions.{queue_fits}
-use borrow.Author.Rules.{rules}
 use Rattle.ranges.proofs.queue_fits.Goals as goal
 
 -- src/lib.rt:102:1

@@ -3,7 +3,6 @@ use mathlib.Core.Path.{sym, ap, subst, ◌∙◌}
 use Rattle.plan.specs.declared.Table.{Table}
 use Rattle.plan.specs.Image.{rows}
 use Rattle.plan.specs.Questions.{in_range}
-use borrow.Author.Rules.{rules}
 use Rattle.ranges.proofs.row_range.Goals as goal
 
 -- src/lib.rt:87:25

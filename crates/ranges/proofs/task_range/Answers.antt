@@ -1,7 +1,6 @@
 use Rattle.plan.specs.declared.Task.{Task}
 use mathlib.Core.Path.{refl, sym, ap, ◌∙◌}
 use Rattle.plan.specs.Questions.{in_range}
-use borrow.Author.Rules.{rules}
 use Rattle.ranges.proofs.task_range.Goals as goal
 
 -- src/lib.rt:33:9
