@@ -1,0 +1,8 @@
+use mathlib.Core.Path.{refl}
+use Rattle.modes.specs.Modes.{table_after}
+use borrow.Author.Rules.{rules}
+use Rattle.turns.proofs.table_after.Goals as goal
+
+pub returns : goal.returns
+unfolding table_after
+returns c = rw c.word_at-entries.ensures refl
