@@ -23,7 +23,7 @@ loop-task-init c = (omega arith, refl)
 
 -- src/lib.rt:166:13
 pub task_budget-requires : goal.task_budget-requires
-task_budget-requires c = let a = c.args in let s = a.image.now in let p = c.requires in let l = c.loop-task in let g = c.rows_of-tasks.ensures in record { sound = p; task_bound = (omega arith, l.invariant.1); }
+task_budget-requires c = let a = c.args in let s = a.image.now in let p = c.requires in let l = c.loop-task in let g = c.rows_of-tasks.ensures in record { sound = p; task_bound = (omega arith, l.invariant.1) }
 
 -- src/lib.rt:167:13
 pub returns-then-not-task_budget : goal.returns-then-not-task_budget

@@ -22,7 +22,7 @@ loop-job-init c = (omega arith, refl)
 
 -- src/lib.rt:150:13
 pub job_budget-requires : goal.job_budget-requires
-job_budget-requires c = let a = c.args in let s = a.image.now in let p = c.requires in let l = c.loop-job in let j = c.jobs_of-jobs.ensures in record { sound = p.sound; task_bound = (p.task_bound.0, (omega arith, (p.task_bound.1, l.invariant.1))); }
+job_budget-requires c = let a = c.args in let s = a.image.now in let p = c.requires in let l = c.loop-job in let j = c.jobs_of-jobs.ensures in record { sound = p.sound; task_bound = (p.task_bound.0, (omega arith, (p.task_bound.1, l.invariant.1))) }
 
 -- src/lib.rt:151:13
 pub returns-then-not-job_budget : goal.returns-then-not-job_budget

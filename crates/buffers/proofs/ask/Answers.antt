@@ -12,7 +12,7 @@ pub loop-place-init : goal.loop-place-init
 loop-place-init c = (omega arith, passed_none (buffer_questions c.args.image.now))
 
 pub first_no-requires : goal.first_no-requires
-first_no-requires c = let p = c.requires in let l = c.loop-place in record { sound = p; place_bound = (omega arith, l.invariant.1); }
+first_no-requires c = let p = c.requires in let l = c.loop-place in record { sound = p; place_bound = (omega arith, l.invariant.1) }
 
 pub question_at-requires : goal.question_at-requires
 question_at-requires c = omega arith

@@ -6,11 +6,11 @@ use Rattle.buffers.proofs.buffer_ends.Goals as goal
 
 -- src/lib.rt:30:19
 pub task_at-requires : goal.task_at-requires
-task_at-requires c = let p = c.requires in record { in_image = p.0.inside; row_bound = rw c.buffer_at-b.ensures (p.0.names Buffers c.args.row p.1).0; }
+task_at-requires c = let p = c.requires in record { in_image = p.0.inside; row_bound = rw c.buffer_at-b.ensures (p.0.names Buffers c.args.row p.1).0 }
 
 -- src/lib.rt:30:54
 pub task_at-requires-2 : goal.task_at-requires-2
-task_at-requires-2 c = let p = c.requires in record { in_image = p.0.inside; row_bound = rw c.buffer_at-b.ensures (p.0.names Buffers c.args.row p.1).1; }
+task_at-requires-2 c = let p = c.requires in record { in_image = p.0.inside; row_bound = rw c.buffer_at-b.ensures (p.0.names Buffers c.args.row p.1).1 }
 
 -- src/lib.rt:31:17
 pub node_of-requires : goal.node_of-requires

@@ -21,7 +21,7 @@ loop-row-init c = (omega arith, refl)
 
 -- src/lib.rt:190:13
 pub passes-requires : goal.passes-requires
-passes-requires c = let p = c.requires in let g = c.rows_of-rows.ensures in record { sound = p.sound; place_bound = (p.place_bound.0, (p.place_bound.1, omega arith)); }
+passes-requires c = let p = c.requires in let g = c.rows_of-rows.ensures in record { sound = p.sound; place_bound = (p.place_bound.0, (p.place_bound.1, omega arith)) }
 
 -- src/lib.rt:191:13
 pub returns-then-not-passes : goal.returns-then-not-passes

@@ -16,7 +16,7 @@ loop-lower-init c = (omega arith, refl)
 
 -- src/lib.rt:160:13
 pub row_apart-requires : goal.row_apart-requires
-row_apart-requires c = let p = c.requires in record { sound = p.sound; lower_lt_row = ((omega arith, p.row_bound.0), p.row_bound.1); }
+row_apart-requires c = let p = c.requires in record { sound = p.sound; lower_lt_row = ((omega arith, p.row_bound.0), p.row_bound.1) }
 
 -- src/lib.rt:161:13
 pub returns-then-not-row_apart : goal.returns-then-not-row_apart

@@ -24,11 +24,11 @@ loop-j-init c = let a = c.args in (omega arith, omega arith, apart_none (hold a.
 
 -- src/lib.rt:125:13
 pub hold_of-a-requires : goal.hold_of-a-requires
-hold_of-a-requires c = let t = both_left c.loop-j.j c.buffer_jobs-lower_jobs.result c.loop-j.k c.buffer_jobs-jobs.result c.loop-j-test.true in let p = c.requires in let g = c.buffer_jobs-lower_jobs.ensures in record { sound = (p.sound.0, p.sound.1.1); row_bound = ((let q = p.lower_lt_row.0 in omega arith), (p.lower_lt_row.1, omega (arith, t.0))); }
+hold_of-a-requires c = let t = both_left c.loop-j.j c.buffer_jobs-lower_jobs.result c.loop-j.k c.buffer_jobs-jobs.result c.loop-j-test.true in let p = c.requires in let g = c.buffer_jobs-lower_jobs.ensures in record { sound = (p.sound.0, p.sound.1.1); row_bound = ((let q = p.lower_lt_row.0 in omega arith), (p.lower_lt_row.1, omega (arith, t.0))) }
 
 -- src/lib.rt:126:13
 pub hold_of-b-requires : goal.hold_of-b-requires
-hold_of-b-requires c = let t = both_left c.loop-j.j c.buffer_jobs-lower_jobs.result c.loop-j.k c.buffer_jobs-jobs.result c.loop-j-test.true in let p = c.requires in let g = c.buffer_jobs-jobs.ensures in record { sound = (p.sound.0, p.sound.1.1); row_bound = (p.lower_lt_row.0.1, (p.lower_lt_row.1, omega (arith, t.1))); }
+hold_of-b-requires c = let t = both_left c.loop-j.j c.buffer_jobs-lower_jobs.result c.loop-j.k c.buffer_jobs-jobs.result c.loop-j-test.true in let p = c.requires in let g = c.buffer_jobs-jobs.ensures in record { sound = (p.sound.0, p.sound.1.1); row_bound = (p.lower_lt_row.0.1, (p.lower_lt_row.1, omega (arith, t.1))) }
 
 -- src/lib.rt:127:13
 pub side_of-side-requires : goal.side_of-side-requires

@@ -7,11 +7,11 @@ use Rattle.buffers.proofs.passes.Goals as goal
 
 -- src/lib.rt:176:15
 pub reader_waits-requires : goal.reader_waits-requires
-reader_waits-requires c = let p = c.requires in let e = c.in-1.is in record { sound = (p.sound.0, p.sound.1.1); row_bound = (p.place_bound.1.1, λ j l. p.place_bound.1.0 j (omega arith)); }
+reader_waits-requires c = let p = c.requires in let e = c.in-1.is in record { sound = (p.sound.0, p.sound.1.1); row_bound = (p.place_bound.1.1, λ j l. p.place_bound.1.0 j (omega arith)) }
 
 -- src/lib.rt:177:14
 pub hold_clear-requires : goal.hold_clear-requires
-hold_clear-requires c = let p = c.requires in let r = c.in_default.in_default-own.rest in let n : 1 ≤ c.args.place = omega (arith, r.0.1) in record { sound = p.sound; row_bound = (p.place_bound.1.1, λ j l. p.place_bound.1.0 j (omega arith)); }
+hold_clear-requires c = let p = c.requires in let r = c.in_default.in_default-own.rest in let n : 1 ≤ c.args.place = omega (arith, r.0.1) in record { sound = p.sound; row_bound = (p.place_bound.1.1, λ j l. p.place_bound.1.0 j (omega arith)) }
 
 -- src/lib.rt:169:1
 pub returns-in-0 : goal.returns-in-0

@@ -22,7 +22,7 @@ loop-job-init c = (omega arith, refl)
 
 -- src/lib.rt:62:13
 pub job_waits-requires : goal.job_waits-requires
-job_waits-requires c = let p = c.requires in let g = c.buffer_jobs-jobs.ensures in record { sound = p.sound; row_bound = (p.row_bound.0, (p.row_bound.1, omega arith)); }
+job_waits-requires c = let p = c.requires in let g = c.buffer_jobs-jobs.ensures in record { sound = p.sound; row_bound = (p.row_bound.0, (p.row_bound.1, omega arith)) }
 
 -- src/lib.rt:63:13
 pub returns-then-not-job_waits : goal.returns-then-not-job_waits

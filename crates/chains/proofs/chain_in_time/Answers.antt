@@ -14,7 +14,7 @@ use Rattle.chains.proofs.chain_in_time.Goals as goal
 
 -- src/lib.rt:145:31
 pub chain_at-requires : goal.chain_at-requires
-chain_at-requires c = let p = c.requires in record { in_image = p.before_chains.0.sound.inside; row_bound = p.chain_bound.0; }
+chain_at-requires c = let p = c.requires in record { in_image = p.before_chains.0.sound.inside; row_bound = p.chain_bound.0 }
 
 -- src/lib.rt:145:9
 pub jobs_of-jobs-requires : goal.jobs_of-jobs-requires
@@ -27,7 +27,7 @@ loop-job-init c = (omega arith, refl)
 
 -- src/lib.rt:148:13
 pub job_within-requires : goal.job_within-requires
-job_within-requires c = let a = c.args in let s = a.image.now in let p = c.requires in let g : c.jobs_of-jobs.result ≡ Rattle.plan.specs.Questions.jobs s (chain s a.chain).first = c.jobs_of-jobs.ensures ∙ (rw c.chain_at.ensures refl) in record { before_chains = p.before_chains; chain_bound = (p.chain_bound.0, (p.chain_bound.1, omega arith)); }
+job_within-requires c = let a = c.args in let s = a.image.now in let p = c.requires in let g : c.jobs_of-jobs.result ≡ Rattle.plan.specs.Questions.jobs s (chain s a.chain).first = c.jobs_of-jobs.ensures ∙ (rw c.chain_at.ensures refl) in record { before_chains = p.before_chains; chain_bound = (p.chain_bound.0, (p.chain_bound.1, omega arith)) }
 
 -- src/lib.rt:149:13
 pub returns-then-not-job_within : goal.returns-then-not-job_within

@@ -14,7 +14,7 @@ chain_path-requires c = let p = c.requires in let e = c.in-1.is in (p.before_cha
 
 -- src/lib.rt:165:14
 pub chain_in_time-requires : goal.chain_in_time-requires
-chain_in_time-requires c = let p = c.requires in let r = c.in_default.in_default-own.rest in let n : 2 ≤ c.args.place = omega (arith, r.0.1, r.1) in record { before_chains = p.before_chains; chain_bound = (p.place_bound.1.1, λ j l. p.place_bound.1.0 j (omega arith)); }
+chain_in_time-requires c = let p = c.requires in let r = c.in_default.in_default-own.rest in let n : 2 ≤ c.args.place = omega (arith, r.0.1, r.1) in record { before_chains = p.before_chains; chain_bound = (p.place_bound.1.1, λ j l. p.place_bound.1.0 j (omega arith)) }
 
 -- src/lib.rt:157:1
 pub returns-in-0 : goal.returns-in-0

@@ -8,7 +8,7 @@ use Rattle.composing.proofs.compose.Goals as goal
 
 -- src/lib.rt:146:9
 pub put_tables-at-requires : goal.put_tables-at-requires
-put_tables-at-requires c = let a = c.args in let p = c.requires in record { ready = p.ready; shared_bound = (p.shared_bound.0, omega (arith, p.tables_value.1.0, joined_room a.first.now a.second.now a.shared)); }
+put_tables-at-requires c = let a = c.args in let p = c.requires in record { ready = p.ready; shared_bound = (p.shared_bound.0, omega (arith, p.tables_value.1.0, joined_room a.first.now a.second.now a.shared)) }
 
 -- src/lib.rt:147:26
 pub cycle_ticks-requires : goal.cycle_ticks-requires
@@ -36,7 +36,7 @@ overflow_add-at-2 c = let a = c.args in let p = c.requires in omega (arith, p.ta
 
 -- src/lib.rt:149:5
 pub put_layout-requires : goal.put_layout-requires
-put_layout-requires c = let a = c.args in let p = c.requires in record { table_count_in_bounds = (omega (arith, p.shared_bound.1.room), counts_small (joined_rows a.first.now a.second.now a.shared) a.counts.now p.shared_bound.1 p.tables_value.0); at_in_bounds = omega (arith, p.tables_value.1.0, joined_room a.first.now a.second.now a.shared, c.put_tables-at.ensures.reached, wrote_size a.joined.now 0 c.put_tables-at.ensures, stored_size _ _ _ _ c.put_word.ensures, stored_size _ _ _ _ c.put_word-2.ensures); }
+put_layout-requires c = let a = c.args in let p = c.requires in record { table_count_in_bounds = (omega (arith, p.shared_bound.1.room), counts_small (joined_rows a.first.now a.second.now a.shared) a.counts.now p.shared_bound.1 p.tables_value.0); at_in_bounds = omega (arith, p.tables_value.1.0, joined_room a.first.now a.second.now a.shared, c.put_tables-at.ensures.reached, wrote_size a.joined.now 0 c.put_tables-at.ensures, stored_size _ _ _ _ c.put_word.ensures, stored_size _ _ _ _ c.put_word-2.ensures) }
 
 -- src/lib.rt:140:1
 pub returns : goal.returns

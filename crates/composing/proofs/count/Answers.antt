@@ -19,7 +19,7 @@ table_at-table-requires c = omega arith
 
 -- src/lib.rt:48:13
 pub rows_joined-n-requires : goal.rows_joined-n-requires
-rows_joined-n-requires c = let p = c.requires in record { ready = (p.ready.0, λ _. p.ready.1); shared_bound = p.shared_bound.0; }
+rows_joined-n-requires c = let p = c.requires in record { ready = (p.ready.0, λ _. p.ready.1); shared_bound = p.shared_bound.0 }
 
 -- src/lib.rt:49:13
 pub shape_of-shape-requires-in-loop-i : goal.shape_of-shape-requires-in-loop-i

@@ -21,7 +21,7 @@ loop-j-init c = let a = c.args in (omega arith, (omega arith, wrote_none a.joine
 
 -- src/lib.rt:70:33
 pub word_of-requires : goal.word_of-requires
-word_of-requires c = let p = c.requires in let g = ap (λ (x : Shape). x.width) c.shape_of-width.ensures in record { ready = p.ready; row_bound = (p.row_bound.0, omega arith); }
+word_of-requires c = let p = c.requires in let g = ap (λ (x : Shape). x.width) c.shape_of-width.ensures in record { ready = p.ready; row_bound = (p.row_bound.0, omega arith) }
 
 -- src/lib.rt:70:9
 pub put_word-requires : goal.put_word-requires

@@ -26,7 +26,7 @@ bounds-picks-i c = omega (arith, c.requires.numbers.0.room)
 
 -- src/lib.rt:85:9
 pub put_row-place-requires : goal.put_row-place-requires
-put_row-place-requires c = let a = c.args in let p = c.requires in let l = c.loop-i in record { ready = p.ready; row_bound = (p.numbers.0.named l.i (omega arith), omega (arith, l.invariant.1.reached, wrote_size a.joined.now a.at l.invariant.1, p.numbers.1, rows_room (shape a.table).width l.i a.n (omega arith), flat_long a.first.now a.second.now a.shared a.table a.picks.now l.i (numbers_low a.first.now a.second.now a.shared a.table a.picks.now a.n l.i p.numbers.0 (omega arith)))); }
+put_row-place-requires c = let a = c.args in let p = c.requires in let l = c.loop-i in record { ready = p.ready; row_bound = (p.numbers.0.named l.i (omega arith), omega (arith, l.invariant.1.reached, wrote_size a.joined.now a.at l.invariant.1, p.numbers.1, rows_room (shape a.table).width l.i a.n (omega arith), flat_long a.first.now a.second.now a.shared a.table a.picks.now l.i (numbers_low a.first.now a.second.now a.shared a.table a.picks.now a.n l.i p.numbers.0 (omega arith)))) }
 
 -- src/lib.rt:86:9
 pub overflow_add-i : goal.overflow_add-i

@@ -16,7 +16,7 @@ table_at-table-requires c = omega arith
 
 -- src/lib.rt:112:9
 pub put_table-place-requires : goal.put_table-place-requires
-put_table-place-requires c = let a = c.args in let p = c.requires in let l = c.loop-i in record { ready = (p.ready.0, λ _. p.ready.1); shared_bound = (p.shared_bound.0, omega (arith, p.shared_bound.1, l.invariant.1.reached, wrote_size a.joined.now 0 l.invariant.1, table_room (joined_rows a.first.now a.second.now a.shared) c.table_at-table.result l.i c.table_at-table.ensures (omega arith))); }
+put_table-place-requires c = let a = c.args in let p = c.requires in let l = c.loop-i in record { ready = (p.ready.0, λ _. p.ready.1); shared_bound = (p.shared_bound.0, omega (arith, p.shared_bound.1, l.invariant.1.reached, wrote_size a.joined.now 0 l.invariant.1, table_room (joined_rows a.first.now a.second.now a.shared) c.table_at-table.result l.i c.table_at-table.ensures (omega arith))) }
 
 -- src/lib.rt:113:9
 pub overflow_add-i : goal.overflow_add-i

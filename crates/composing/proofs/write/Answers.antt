@@ -13,7 +13,7 @@ returns-then-joined-length c = let a = c.args in too_long a.first.now a.second.n
 
 -- src/lib.rt:168:5
 pub compose-requires : goal.compose-requires
-compose-requires c = let p = c.requires in let q = counted_fits _ _ _ _ _ c.count-length.ensures c.if-length-eq0.false in record { ready = (p.0, c.place_streams.ensures); shared_bound = (p.1, q.1.1); tables_value = (q.0, (omega (arith, q.1.0, c.if-joined-length.false), omega (arith, q.1.0))); }
+compose-requires c = let p = c.requires in let q = counted_fits _ _ _ _ _ c.count-length.ensures c.if-length-eq0.false in record { ready = (p.0, c.place_streams.ensures); shared_bound = (p.1, q.1.1); tables_value = (q.0, (omega (arith, q.1.0, c.if-joined-length.false), omega (arith, q.1.0))) }
 
 -- src/lib.rt:154:1
 pub returns : goal.returns

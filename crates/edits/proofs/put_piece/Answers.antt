@@ -31,7 +31,7 @@ pub store_sums-requires : goal.store_sums-requires
 store_sums-requires c = let a = c.args in let e = c.requires in (stored_room a.words.now a.place a.piece e _ (c.store_place.ensures ∙ ap (λ (v : List ℕ). sets v (place_at a.place) (piece_words a.piece)) c.count_all.ensures), (add_room a.words.now a.place a.piece e).1)
 
 pub count_core-requires : goal.count_core-requires
-count_core-requires c = let a = c.args in let e1 = c.count_all.ensures in let e2 = c.store_place.ensures ∙ ap (λ (v : List ℕ). sets v (place_at a.place) (piece_words a.piece)) e1 in let e3 = is_placed a.words.now a.place a.piece c.requires _ _ _ _ e2 c.rank_of-rank.ensures c.stored_total.ensures c.store_sums.ensures in let both = core_ready a.words.now a.place a.piece c.requires _ _ e3 c.task_core-core.ensures in record { draft_words_in_bounds = both.0; ticks_bound = both.1; }
+count_core-requires c = let a = c.args in let e1 = c.count_all.ensures in let e2 = c.store_place.ensures ∙ ap (λ (v : List ℕ). sets v (place_at a.place) (piece_words a.piece)) e1 in let e3 = is_placed a.words.now a.place a.piece c.requires _ _ _ _ e2 c.rank_of-rank.ensures c.stored_total.ensures c.store_sums.ensures in let both = core_ready a.words.now a.place a.piece c.requires _ _ e3 c.task_core-core.ensures in record { draft_words_in_bounds = both.0; ticks_bound = both.1 }
 
 pub returns : goal.returns
 returns c = let a = c.args in let e1 = c.count_all.ensures in let e2 = c.store_place.ensures ∙ ap (λ (v : List ℕ). sets v (place_at a.place) (piece_words a.piece)) e1 in let e3 = is_placed a.words.now a.place a.piece c.requires _ _ _ _ e2 c.rank_of-rank.ensures c.stored_total.ensures c.store_sums.ensures in ends_put a.words.now a.place a.piece c.requires _ _ _ e3 c.task_core-core.ensures c.count_core.ensures

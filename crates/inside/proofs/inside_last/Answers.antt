@@ -12,7 +12,7 @@ returns-then-last-eq0 c = rw c.if-last-eq0.true refl
 
 -- src/lib.rt:65:5
 pub lies_inside-requires : goal.lies_inside-requires
-lies_inside-requires c = let p = c.requires in let n = c.if-last-eq0.false in record { sound = (p.sound.0, (p.sound.1.1, omega (arith, p.last_bound))); charged = p.sound.1.0; }
+lies_inside-requires c = let p = c.requires in let n = c.if-last-eq0.false in record { sound = (p.sound.0, (p.sound.1.1, omega (arith, p.last_bound))); charged = p.sound.1.0 }
 
 -- src/lib.rt:57:1
 pub returns : goal.returns

@@ -6,7 +6,7 @@ use Rattle.inside.proofs.lies_inside.Goals as goal
 
 -- src/lib.rt:31:25
 pub task_at-requires : goal.task_at-requires
-task_at-requires c = let p = c.requires in record { in_image = p.sound.0.inside; row_bound = rw c.piece_at-p.ensures (p.sound.0.names Pieces c.args.piece p.sound.1.0); }
+task_at-requires c = let p = c.requires in record { in_image = p.sound.0.inside; row_bound = rw c.piece_at-p.ensures (p.sound.0.names Pieces c.args.piece p.sound.1.0) }
 
 -- src/lib.rt:33:16
 pub piece_end-requires : goal.piece_end-requires

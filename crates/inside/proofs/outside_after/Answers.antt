@@ -29,11 +29,11 @@ loop-piece-init c = let a = c.args in let p = c.requires in (omega arith, c.rows
 
 -- src/lib.rt:86:52
 pub piece_at-requires : goal.piece_at-requires
-piece_at-requires c = let a = c.args in let s = a.image.now in let p = c.requires in let l = c.loop-piece in let i : l.piece < rows s Pieces = omega (arith, l.invariant.1, c.loop-piece-test.true) in record { in_image = p.sound.0.inside; row_bound = i; }
+piece_at-requires c = let a = c.args in let s = a.image.now in let p = c.requires in let l = c.loop-piece in let i : l.piece < rows s Pieces = omega (arith, l.invariant.1, c.loop-piece-test.true) in record { in_image = p.sound.0.inside; row_bound = i }
 
 -- src/lib.rt:86:9
 pub take_windows-window-requires : goal.take_windows-window-requires
-take_windows-window-requires c = let a = c.args in let s = a.image.now in let p = c.requires in let l = c.loop-piece in let i : l.piece < rows s Pieces = omega (arith, l.invariant.1, c.loop-piece-test.true) in record { sound = (p.sound.0, (l.invariant.3, l.invariant.4)); starting = rw c.piece_at.ensures (λ w z. l.invariant.5 w z i); }
+take_windows-window-requires c = let a = c.args in let s = a.image.now in let p = c.requires in let l = c.loop-piece in let i : l.piece < rows s Pieces = omega (arith, l.invariant.1, c.loop-piece-test.true) in record { sound = (p.sound.0, (l.invariant.3, l.invariant.4)); starting = rw c.piece_at.ensures (λ w z. l.invariant.5 w z i) }
 
 -- src/lib.rt:87:13
 pub vcpu_of-vcpu-requires : goal.vcpu_of-vcpu-requires
@@ -49,7 +49,7 @@ bounds-last-vcpu c = let a = c.args in let s = a.image.now in let p = c.requires
 
 -- src/lib.rt:88:13
 pub inside_last-requires : goal.inside_last-requires
-inside_last-requires c = let a = c.args in let s = a.image.now in let p = c.requires in let l = c.loop-piece in let i : l.piece < rows s Pieces = omega (arith, l.invariant.1, c.loop-piece-test.true) in let t = c.take_windows-window in let e = c.piece_at.ensures in let b : Begun s (piece s l.piece).start t.result = subst (λ (x : Piece). Begun s x.start t.result) e t.ensures.0 in let v = c.vcpu_of-vcpu.ensures in let r = holder_read s p.sound.0 t.new.last t.result l.piece i t.ensures.1 in let m = b.rows_most in record { sound = (p.sound.0, (p.sound.1.1, i)); last_bound = rw (v, r) (omega (arith, holder_most s p.sound.0 t.result (vcpu_of s l.piece))); }
+inside_last-requires c = let a = c.args in let s = a.image.now in let p = c.requires in let l = c.loop-piece in let i : l.piece < rows s Pieces = omega (arith, l.invariant.1, c.loop-piece-test.true) in let t = c.take_windows-window in let e = c.piece_at.ensures in let b : Begun s (piece s l.piece).start t.result = subst (λ (x : Piece). Begun s x.start t.result) e t.ensures.0 in let v = c.vcpu_of-vcpu.ensures in let r = holder_read s p.sound.0 t.new.last t.result l.piece i t.ensures.1 in let m = b.rows_most in record { sound = (p.sound.0, (p.sound.1.1, i)); last_bound = rw (v, r) (omega (arith, holder_most s p.sound.0 t.result (vcpu_of s l.piece))) }
 
 -- src/lib.rt:89:13
 pub returns-then-not-inside_last : goal.returns-then-not-inside_last

@@ -22,7 +22,7 @@ loop-window-init c = let p = c.requires in (omega (arith, p.sound.1.0, c.rows_of
 
 -- src/lib.rt:46:13
 pub window_at-w-requires : goal.window_at-w-requires
-window_at-w-requires c = let a = c.args in let s = a.image.now in let p = c.requires in let l = c.loop-window in let i : l.window < rows s Windows = omega (arith, l.invariant.1, c.loop-window-test.true) in record { in_image = p.sound.0.inside; row_bound = i; }
+window_at-w-requires c = let a = c.args in let s = a.image.now in let p = c.requires in let l = c.loop-window in let i : l.window < rows s Windows = omega (arith, l.invariant.1, c.loop-window-test.true) in record { in_image = p.sound.0.inside; row_bound = i }
 
 -- src/lib.rt:48:13
 pub returns-then-tick-w : goal.returns-then-tick-w

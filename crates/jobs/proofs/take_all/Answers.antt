@@ -17,7 +17,7 @@ loop-piece-init c = (omega arith, refl, c.requires.gathered)
 
 -- src/lib.rt:112:9
 pub take_in-requires : goal.take_in-requires
-take_in-requires c = let p = c.requires in let g = c.rows_of-pieces.ensures in record { sound = (p.sound.0, (p.sound.1, omega arith)); gathered = c.loop-piece.invariant.2; }
+take_in-requires c = let p = c.requires in let g = c.rows_of-pieces.ensures in record { sound = (p.sound.0, (p.sound.1, omega arith)); gathered = c.loop-piece.invariant.2 }
 
 -- src/lib.rt:113:9
 pub overflow_add-piece : goal.overflow_add-piece

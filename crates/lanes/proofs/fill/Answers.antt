@@ -16,7 +16,7 @@ pub bounds-words-1 : goal.bounds-words-1
 bounds-words-1 c = simp length-set (omega (arith, c.if-words-count.false))
 
 pub write_entries-requires : goal.write_entries-requires
-write_entries-requires c = record { gathered = c.requires; lane_in_bounds = simp length-set (omega (arith, c.count_entries-count.ensures, c.if-words-count.false)); }
+write_entries-requires c = record { gathered = c.requires; lane_in_bounds = simp length-set (omega (arith, c.count_entries-count.ensures, c.if-words-count.false)) }
 
 pub shape_of-words : goal.shape_of-words
 shape_of-words c = c.write_entries.auto.words ∙ simp length-set

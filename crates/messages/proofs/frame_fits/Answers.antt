@@ -7,7 +7,7 @@ use borrow.Author.Rules.{rules}
 use Rattle.messages.proofs.frame_fits.Goals as goal
 
 pub stream_at-m-requires : goal.stream_at-m-requires
-stream_at-m-requires c = let p = c.requires in record { in_image = p.0.inside; row_bound = rw c.frame_at-f.ensures (p.0.names Frames c.args.frame p.1).0; }
+stream_at-m-requires c = let p = c.requires in record { in_image = p.0.inside; row_bound = rw c.frame_at-f.ensures (p.0.names Frames c.args.frame p.1).0 }
 
 pub stream_period-period-requires : goal.stream_period-period-requires
 stream_period-period-requires c = let p = c.requires in (p.0, rw c.frame_at-f.ensures (p.0.names Frames c.args.frame p.1).0)

@@ -13,7 +13,7 @@ unfolding hop_waits
 returns-then-f-eq0 c = let f = c.frame_at-f.ensures in let e = ap (λ (x : Frame). x.hop) f in rw (eq-eqb _ 0 (sym e ∙ c.if-f-eq0.true)) refl
 
 pub frame_of-previous-requires : goal.frame_of-previous-requires
-frame_of-previous-requires c = let a = c.args in let p = c.requires in let f = c.frame_at-f.ensures in let s = a.image.now in record { framed = (p.0, p.1.0); job_of = rw f (job_of s p.0 a.frame p.1.1, omega (arith, hop_of s p.0 a.frame p.1.1)); }
+frame_of-previous-requires c = let a = c.args in let p = c.requires in let f = c.frame_at-f.ensures in let s = a.image.now in record { framed = (p.0, p.1.0); job_of = rw f (job_of s p.0 a.frame p.1.1, omega (arith, hop_of s p.0 a.frame p.1.1)) }
 
 pub across_at-requires : goal.across_at-requires
 across_at-requires c = let a = c.args in let p = c.requires in let f = c.frame_at-f.ensures in let s = a.image.now in (p.0.sound, rw (c.frame_of-previous.ensures, f) (frame_exists s p.0 _ _ _ (job_of s p.0 a.frame p.1.1) (omega (arith, hop_of s p.0 a.frame p.1.1))))

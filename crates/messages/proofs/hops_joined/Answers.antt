@@ -16,7 +16,7 @@ use Rattle.frames.proofs.Reading.{frame_exists}
 use Rattle.messages.proofs.hops_joined.Goals as goal
 
 pub stream_at-m-requires : goal.stream_at-m-requires
-stream_at-m-requires c = let p = c.requires in record { in_image = p.0.sound.inside; row_bound = p.1.1.row; }
+stream_at-m-requires c = let p = c.requires in record { in_image = p.0.sound.inside; row_bound = p.1.1.row }
 
 pub node_of-node-requires : goal.node_of-node-requires
 node_of-node-requires c = let p = c.requires in (p.0.sound, rw c.stream_at-m.ensures (p.0.sound.names Streams c.args.stream p.1.1.row).0)
@@ -26,13 +26,13 @@ unfolding all reached
 loop-hop-init c = (omega arith, c.node_of-node.ensures ∙ ap (λ (x : Stream). node_of c.args.image.now x.sender) c.stream_at-m.ensures, refl)
 
 pub frame_of-frame-requires : goal.frame_of-frame-requires
-frame_of-frame-requires c = let p = c.requires in let g = ap (λ (x : Stream). x.hops) c.stream_at-m.ensures in record { framed = (p.0, p.1.0); job_of = (p.1.1, omega arith); }
+frame_of-frame-requires c = let p = c.requires in let g = ap (λ (x : Stream). x.hops) c.stream_at-m.ensures in record { framed = (p.0, p.1.0); job_of = (p.1.1, omega arith) }
 
 pub frame_at-requires : goal.frame_at-requires
-frame_at-requires c = let a = c.args in let p = c.requires in let g = ap (λ (x : Stream). x.hops) c.stream_at-m.ensures in let h = c.loop-hop.hop in record { in_image = p.0.sound.inside; row_bound = rw c.frame_of-frame.ensures (frame_exists a.image.now p.0 a.stream a.job h p.1.1 (omega arith)); }
+frame_at-requires c = let a = c.args in let p = c.requires in let g = ap (λ (x : Stream). x.hops) c.stream_at-m.ensures in let h = c.loop-hop.hop in record { in_image = p.0.sound.inside; row_bound = rw c.frame_of-frame.ensures (frame_exists a.image.now p.0 a.stream a.job h p.1.1 (omega arith)) }
 
 pub link_at-link-requires : goal.link_at-link-requires
-link_at-link-requires c = let a = c.args in let p = c.requires in let g = ap (λ (x : Stream). x.hops) c.stream_at-m.ensures in let h = c.loop-hop.hop in record { in_image = p.0.sound.inside; row_bound = rw (c.frame_at.ensures, c.frame_of-frame.ensures) (p.0.sound.names Frames _ (frame_exists a.image.now p.0 a.stream a.job h p.1.1 (omega arith))).1; }
+link_at-link-requires c = let a = c.args in let p = c.requires in let g = ap (λ (x : Stream). x.hops) c.stream_at-m.ensures in let h = c.loop-hop.hop in record { in_image = p.0.sound.inside; row_bound = rw (c.frame_at.ensures, c.frame_of-frame.ensures) (p.0.sound.names Frames _ (frame_exists a.image.now p.0 a.stream a.job h p.1.1 (omega arith))).1 }
 
 pub returns-then-link-node : goal.returns-then-link-node
 returns-then-link-node c = let a = c.args in let s = a.image.now in let l = c.loop-hop in let m = c.stream_at-m in let g = ap (λ (x : Stream). x.hops) m.ensures in let r = c.frame_of-frame in let f = c.frame_at in let k = c.link_at-link in let e = hop_link s a.stream a.job l.hop r.result f.result k.result r.ensures f.ensures k.ensures in let d = ap (λ (x : Link). x.from) e in breaks_off s a.stream a.job l.hop (omega arith) (ne_eqb _ _ (λ z. c.if-link-node.true (d ∙ z ∙ sym l.invariant.1)))

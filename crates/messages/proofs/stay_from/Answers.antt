@@ -11,7 +11,7 @@ use Rattle.messages.proofs.stay_from.Goals as goal
 
 -- src/lib.rt:121:22
 pub stream_at-sender-requires : goal.stream_at-sender-requires
-stream_at-sender-requires c = let a = c.args in let p = c.requires in record { in_image = p.timed.1.0.sound.inside; row_bound = rw c.frame_at-f.ensures (job_of a.image.now p.timed.1.0 a.frame p.timed.1.1).row; }
+stream_at-sender-requires c = let a = c.args in let p = c.requires in record { in_image = p.timed.1.0.sound.inside; row_bound = rw c.frame_at-f.ensures (job_of a.image.now p.timed.1.0 a.frame p.timed.1.1).row }
 
 -- src/lib.rt:122:16
 pub last_end-requires : goal.last_end-requires
@@ -24,7 +24,7 @@ returns-then-f-eq0 c = let f = c.frame_at-f.ensures in let e = ap (λ (x : Frame
 
 -- src/lib.rt:124:9
 pub frame_of-before-requires : goal.frame_of-before-requires
-frame_of-before-requires c = let a = c.args in let p = c.requires in let f = c.frame_at-f.ensures in let s = a.image.now in record { framed = (p.timed.1.0, p.indexed); job_of = rw f (job_of s p.timed.1.0 a.frame p.timed.1.1, omega (arith, hop_of s p.timed.1.0 a.frame p.timed.1.1)); }
+frame_of-before-requires c = let a = c.args in let p = c.requires in let f = c.frame_at-f.ensures in let s = a.image.now in record { framed = (p.timed.1.0, p.indexed); job_of = rw f (job_of s p.timed.1.0 a.frame p.timed.1.1, omega (arith, hop_of s p.timed.1.0 a.frame p.timed.1.1)) }
 
 -- src/lib.rt:125:5
 pub over_from-requires : goal.over_from-requires

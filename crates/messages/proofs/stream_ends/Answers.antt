@@ -5,10 +5,10 @@ use borrow.Author.Rules.{rules}
 use Rattle.messages.proofs.stream_ends.Goals as goal
 
 pub task_at-requires : goal.task_at-requires
-task_at-requires c = let p = c.requires in record { in_image = p.0.inside; row_bound = rw c.stream_at-m.ensures (p.0.names Streams c.args.stream p.1).0; }
+task_at-requires c = let p = c.requires in record { in_image = p.0.inside; row_bound = rw c.stream_at-m.ensures (p.0.names Streams c.args.stream p.1).0 }
 
 pub task_at-requires-2 : goal.task_at-requires-2
-task_at-requires-2 c = let p = c.requires in record { in_image = p.0.inside; row_bound = rw c.stream_at-m.ensures (p.0.names Streams c.args.stream p.1).1; }
+task_at-requires-2 c = let p = c.requires in record { in_image = p.0.inside; row_bound = rw c.stream_at-m.ensures (p.0.names Streams c.args.stream p.1).1 }
 
 pub node_of-requires : goal.node_of-requires
 node_of-requires c = let p = c.requires in (p.0, rw c.stream_at-m.ensures (p.0.names Streams c.args.stream p.1).0)

@@ -28,7 +28,7 @@ place_of-place-requires c = let a = c.args in let s = a.image.now in let w = c.r
 
 -- src/lib.rt:45:12
 pub stay_from-requires : goal.stay_from-requires
-stay_from-requires c = let a = c.args in let s = a.image.now in let w = c.requires.0 in let l = c.loop-frame in let i : l.frame < rows s Frames = omega (arith, l.invariant.1, c.loop-frame-test.true) in record { timed = (w.timed, (w.framed, i)); indexed = w.indexed; }
+stay_from-requires c = let a = c.args in let s = a.image.now in let w = c.requires.0 in let l = c.loop-frame in let i : l.frame < rows s Frames = omega (arith, l.invariant.1, c.loop-frame-test.true) in record { timed = (w.timed, (w.framed, i)); indexed = w.indexed }
 
 -- src/lib.rt:45:52
 pub offset_bounds-ends-place : goal.offset_bounds-ends-place

@@ -14,7 +14,7 @@ use Rattle.streams.specs.Framing.{job_asked}
 use Rattle.streams.proofs.each_job.Goals as goal
 
 pub stream_at-requires : goal.stream_at-requires
-stream_at-requires c = let p = c.requires in record { in_image = p.0.sound.inside; row_bound = p.1.1; }
+stream_at-requires c = let p = c.requires in record { in_image = p.0.sound.inside; row_bound = p.1.1 }
 
 pub jobs_of-jobs-requires : goal.jobs_of-jobs-requires
 jobs_of-jobs-requires c = let a = c.args in let p = c.requires in (p.0.sound, rw c.stream_at.ensures (p.0.sound.names Streams a.stream p.1.1).0)

@@ -22,7 +22,7 @@ unfolding first_no
 loop-row-init c = (omega arith, refl)
 
 pub passes-requires : goal.passes-requires
-passes-requires c = let l = c.loop-row in let a = c.args in let p = c.requires in let s = a.image.now in let q = question_at (stream_questions s) a.place in let g : c.rows_of-rows.result ≡ q.many = c.rows_of-rows.ensures ∙ listed_rows stream_questions s a.place _ c.question_at-asked.ensures in record { asking = p; row_bound = rw (← g) c.loop-row-test.true; }
+passes-requires c = let l = c.loop-row in let a = c.args in let p = c.requires in let s = a.image.now in let q = question_at (stream_questions s) a.place in let g : c.rows_of-rows.result ≡ q.many = c.rows_of-rows.ensures ∙ listed_rows stream_questions s a.place _ c.question_at-asked.ensures in record { asking = p; row_bound = rw (← g) c.loop-row-test.true }
 
 pub returns-then-not-passes : goal.returns-then-not-passes
 returns-then-not-passes c = let l = c.loop-row in let a = c.args in let p = c.requires in let s = a.image.now in let q = question_at (stream_questions s) a.place in let g : c.rows_of-rows.result ≡ q.many = c.rows_of-rows.ensures ∙ listed_rows stream_questions s a.place _ c.question_at-asked.ensures in sym (stops q.ok q.many l.row l.invariant.1 (rw (← g) c.loop-row-test.true) (sym c.passes.ensures ∙ c.if-not-passes.true))

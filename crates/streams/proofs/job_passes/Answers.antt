@@ -8,7 +8,7 @@ pub hops_joined-requires : goal.hops_joined-requires
 hops_joined-requires c = let a = c.args in let p = c.requires in let s = a.image.now in let t = a.times.now in let i = a.index.now in let e = c.in-3.is in (framed_at s t i a.place p.0 (omega arith), (p.0.indexed, p.1.1))
 
 pub message_waits-requires : goal.message_waits-requires
-message_waits-requires c = let a = c.args in let p = c.requires in let s = a.image.now in let t = a.times.now in let i = a.index.now in let e = c.in-6.is in record { timed = (p.0.timed, (framed_at s t i a.place p.0 (omega arith), p.1.1)); indexed = p.0.indexed; }
+message_waits-requires c = let a = c.args in let p = c.requires in let s = a.image.now in let t = a.times.now in let i = a.index.now in let e = c.in-6.is in record { timed = (p.0.timed, (framed_at s t i a.place p.0 (omega arith), p.1.1)); indexed = p.0.indexed }
 
 pub in_time-requires : goal.in_time-requires
 in_time-requires c = let a = c.args in let p = c.requires in let s = a.image.now in let t = a.times.now in let i = a.index.now in let r = c.in_default.in_default-own.rest in (p.0.timed, (framed_at s t i a.place p.0 p.1.0, p.1.1))

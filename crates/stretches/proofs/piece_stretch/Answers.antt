@@ -9,7 +9,7 @@ use Rattle.plan.proofs.Sounds.{accepted_sound}
 use Rattle.stretches.proofs.piece_stretch.Goals as goal
 
 pub piece_at-p-requires : goal.piece_at-p-requires
-piece_at-p-requires c = let p = c.requires in record { in_image = (accepted_sound _ p.0).inside; row_bound = p.1; }
+piece_at-p-requires c = let p = c.requires in record { in_image = (accepted_sound _ p.0).inside; row_bound = p.1 }
 
 pub switch_ticks-requires : goal.switch_ticks-requires
 switch_ticks-requires c = let p = c.requires in let h = accepted_sound _ p.0 in (h, rw c.piece_at-p.ensures (h.names Pieces _ p.1))

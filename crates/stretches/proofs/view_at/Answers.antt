@@ -10,11 +10,11 @@ rows_of-cores-requires c = (accepted_sound _ c.requires.0.passed).inside.trailer
 
 -- src/lib.rt:268:9
 pub core_view-requires : goal.core_view-requires
-core_view-requires c = let p = c.requires in record { gathered = (p.0, p.1.0); cursor = p.1.1.core (rw (← c.rows_of-cores.ensures) c.if-lane-cores.true); }
+core_view-requires c = let p = c.requires in record { gathered = (p.0, p.1.0); cursor = p.1.1.core (rw (← c.rows_of-cores.ensures) c.if-lane-cores.true) }
 
 -- src/lib.rt:270:9
 pub link_view-requires : goal.link_view-requires
-link_view-requires c = let p = c.requires in let e = c.rows_of-cores.ensures in record { image_value = (p.0.passed, (p.0.indexed, p.1.0)); cursor = rw e (p.1.1.link (rw (← e) c.if-lane-cores.false)); }
+link_view-requires c = let p = c.requires in let e = c.rows_of-cores.ensures in record { image_value = (p.0.passed, (p.0.indexed, p.1.0)); cursor = rw e (p.1.1.link (rw (← e) c.if-lane-cores.false)) }
 
 -- src/lib.rt:255:1
 pub returns-else-lane-cores : goal.returns-else-lane-cores

@@ -10,7 +10,7 @@ use Rattle.stretches.proofs.window_stretch.Goals as goal
 
 -- src/lib.rt:144:9
 pub window_at-w-requires : goal.window_at-w-requires
-window_at-w-requires c = let p = c.requires in record { in_image = (accepted_sound _ p.0).inside; row_bound = p.1.1; }
+window_at-w-requires c = let p = c.requires in record { in_image = (accepted_sound _ p.0).inside; row_bound = p.1.1 }
 
 -- src/lib.rt:149:25
 pub charge_at-requires : goal.charge_at-requires

@@ -11,7 +11,7 @@ pub take_at-requires : goal.take_at-requires
 take_at-requires c =
     let a = c.args in let p = c.requires in let e = c.piece_at-piece.ensures in
     let m = may_take a.words.now p.headed.0.0 p.headed.0.1 a.gathered.now a.place c.rank_at-rank.result p.gathered p.headed.1 c.if-rank-lt-PLACES.true in
-    record { gathered_len = (m.0.0, m.0.1); rank_bound = rw e m.1; }
+    record { gathered_len = (m.0.0, m.0.1); rank_bound = rw e m.1 }
 
 pub returns-then-rank-lt-PLACES : goal.returns-then-rank-lt-PLACES
 returns-then-rank-lt-PLACES c =

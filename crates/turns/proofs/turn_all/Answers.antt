@@ -4,4 +4,4 @@ use borrow.Author.Rules.{rules}
 use Rattle.turns.proofs.turn_all.Goals as goal
 
 pub returns-then-lowest-ne0 : goal.returns-then-lowest-ne0
-returns-then-lowest-ne0 c = let e = c.refused_there-lowest in record { value = e.ensures; states_after = rw (ne_eqb e.result 0 c.if-lowest-ne0.true) refl; }
+returns-then-lowest-ne0 c = let e = c.refused_there-lowest in record { value = e.ensures; states_after = rw (ne_eqb e.result 0 c.if-lowest-ne0.true) refl }

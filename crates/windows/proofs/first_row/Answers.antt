@@ -25,7 +25,7 @@ loop-row-init c = (omega arith, refl)
 
 -- src/lib.rt:98:13
 pub passes-requires : goal.passes-requires
-passes-requires c = let l = c.loop-row in let a = c.args in let p = c.requires in let s = a.image.now in let q = question_at (piece_questions s) a.place in let g : c.rows_of-rows.result ≡ q.many = c.rows_of-rows.ensures ∙ listed_rows piece_questions s a.place _ c.question_at-asked.ensures in record { asking = p; row_bound = rw (← g) c.loop-row-test.true; }
+passes-requires c = let l = c.loop-row in let a = c.args in let p = c.requires in let s = a.image.now in let q = question_at (piece_questions s) a.place in let g : c.rows_of-rows.result ≡ q.many = c.rows_of-rows.ensures ∙ listed_rows piece_questions s a.place _ c.question_at-asked.ensures in record { asking = p; row_bound = rw (← g) c.loop-row-test.true }
 
 -- src/lib.rt:99:13
 pub returns-then-not-passes : goal.returns-then-not-passes

@@ -18,7 +18,7 @@ unfolding tables_below stored flat_map
 loop-lane-init c = (omega arith, (refl, refl))
 
 pub write_table-count-requires : goal.write_table-count-requires
-write_table-count-requires c = let s = c.args.image.now in let b = c.args.bytes.now in let l = c.loop-lane in let t : l.lane < lanes s = omega (arith, c.lane_count-lanes.ensures) in let i = below_inside s l.lane t in record { gathered = (c.requires.0, t); lane_in_bounds = omega (arith, i, l.invariant.1.0, c.requires.1, ap length l.invariant.1.1, stored_length b 0 (tables_below s l.lane)); }
+write_table-count-requires c = let s = c.args.image.now in let b = c.args.bytes.now in let l = c.loop-lane in let t : l.lane < lanes s = omega (arith, c.lane_count-lanes.ensures) in let i = below_inside s l.lane t in record { gathered = (c.requires.0, t); lane_in_bounds = omega (arith, i, l.invariant.1.0, c.requires.1, ap length l.invariant.1.1, stored_length b 0 (tables_below s l.lane)) }
 
 pub overflow_cast-at : goal.overflow_cast-at
 overflow_cast-at c = let s = c.args.image.now in let b = c.args.bytes.now in let l = c.loop-lane in let t : l.lane < lanes s = omega (arith, c.lane_count-lanes.ensures) in let i = below_inside s l.lane t in let n = c.write_table-count.ensures.0 in omega (arith, n, i, c.requires.1, c.well_formed)

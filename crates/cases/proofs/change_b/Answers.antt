@@ -1,0 +1,77 @@
+use Prim.Native.Nat.{◌≤◌, ◌-◌}
+use mathlib.Core.Path.{◌≡◌, refl, ◌∙◌}
+use native.Mathlib.Omega.{arith}
+use lib.ListN.{length}
+use Rattle.cases.proofs.change_b.Goals as goal
+
+-- src/main.rt:263:14
+pub overflow_mul-at : goal.overflow_mul-at
+overflow_mul-at c = omega arith
+
+-- src/main.rt:264:17
+pub offset_bounds-at : goal.offset_bounds-at
+offset_bounds-at c = omega arith
+
+-- src/main.rt:265:27
+pub overflow_add-value : goal.overflow_add-value
+overflow_add-value c = omega arith
+
+-- src/main.rt:265:17
+pub offset_bounds-at-2 : goal.offset_bounds-at-2
+offset_bounds-at-2 c = omega arith
+
+-- src/main.rt:267:28
+pub overflow_add-second : goal.overflow_add-second
+overflow_add-second c = omega arith
+
+-- src/main.rt:267:18
+pub offset_bounds-at-3 : goal.offset_bounds-at-3
+offset_bounds-at-3 c = omega arith
+
+-- src/main.rt:267:27
+pub overflow_add-other : goal.overflow_add-other
+overflow_add-other c = omega arith
+
+-- src/main.rt:267:17
+pub offset_bounds-at-4 : goal.offset_bounds-at-4
+offset_bounds-at-4 c = omega arith
+
+-- src/main.rt:269:5
+pub loop-i-init : goal.loop-i-init
+loop-i-init c = (omega arith, refl)
+
+-- src/main.rt:273:21
+pub offset_bounds-i : goal.offset_bounds-i
+offset_bounds-i c = omega arith
+
+-- src/main.rt:273:32
+pub overflow_cast-i : goal.overflow_cast-i
+overflow_cast-i c = omega arith
+
+-- src/main.rt:273:13
+pub changed-requires : goal.changed-requires
+changed-requires c = tt
+
+-- src/main.rt:270:9
+pub put-requires : goal.put-requires
+put-requires c = omega arith
+
+-- src/main.rt:275:9
+pub overflow_add-i : goal.overflow_add-i
+overflow_add-i c = omega arith
+
+-- src/main.rt:269:5
+pub loop-i-smaller : goal.loop-i-smaller
+loop-i-smaller c = omega arith
+
+-- src/main.rt:269:5
+pub loop-i-preserved : goal.loop-i-preserved
+loop-i-preserved c = (omega arith, c.put.auto.image ∙ c.loop-i.invariant.1)
+
+-- src/main.rt:260:1
+pub shape_of-image : goal.shape_of-image
+shape_of-image c = c.loop-i.invariant.1
+
+-- src/main.rt:260:1
+pub returns : goal.returns
+returns c = tt

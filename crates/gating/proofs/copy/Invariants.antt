@@ -1,0 +1,14 @@
+use Prim.Native.Nat.{ℕ, ◌-◌, ◌≤◌}
+use mathlib.Core.Path.{◌≡◌, refl, ap, ◌∙◌}
+use native.Mathlib.Omega.{arith}
+use lib.ListN.{length, get_or, take, length-set}
+use lib.Seq.{sets}
+use Rattle.gating.proofs.Copying.{copy_turn}
+use borrow.Author.Rules.{rules}
+use Rattle.gating.proofs.copy.Given as goal
+
+abbrev pub invariant-loop-i : goal.invariant-loop-i
+invariant-loop-i l = (l.i ≤ l.many) × (length l.words ≡ length l.initial.words) × (l.words ≡ sets l.initial.words 0 (take l.i l.list))
+
+abbrev pub decreases-loop-i : goal.decreases-loop-i
+decreases-loop-i l = l.many - l.i
