@@ -24,3 +24,7 @@ overflow_add-count c = let a = c.args in let s = a.image.now in let g = c.list_g
 -- src/lib.rt:75:1
 pub returns : goal.returns
 returns c = let a = c.args in let s = a.image.now in let g = c.list_gates-answer in let n = count_is s a.link (length a.words.now) _ g.result g.new.list g.ensures refl c.if-answer-ne0.false in let m = many_is s a.link (length a.words.now) _ g.result g.new.list g.ensures refl c.if-answer-ne0.false (get_or g.new.list 0 0) n in (g.ensures.answer a.words.now refl, rw (c.copy.ensures, take_is s a.link (length a.words.now) _ g.result g.new.list g.ensures refl c.if-answer-ne0.false (get_or g.new.list 0 0) n) (words_done s a.link (length a.words.now) _ g.result g.new.list g.ensures a.words.now refl c.if-answer-ne0.false))
+
+-- src/lib.rt:85:5
+pub copy-requires : goal.copy-requires
+copy-requires c = let a = c.args in let s = a.image.now in let g = c.list_gates-answer in let n = count_is s a.link (length a.words.now) _ g.result g.new.list g.ensures refl c.if-answer-ne0.false in let m = many_is s a.link (length a.words.now) _ g.result g.new.list g.ensures refl c.if-answer-ne0.false (get_or g.new.list 0 0) n in (omega (arith, g.ensures.most c.if-answer-ne0.false, g.auto.list), omega (arith, g.ensures.fits c.if-answer-ne0.false))

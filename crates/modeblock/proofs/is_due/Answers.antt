@@ -1,0 +1,6 @@
+use mathlib.Core.Path.{refl}
+use borrow.Author.Rules.{rules}
+use Rattle.modeblock.proofs.is_due.Goals as goal
+
+pub returns : goal.returns
+returns c = rw c.word-tick.ensures refl
