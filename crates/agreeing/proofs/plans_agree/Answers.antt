@@ -1,7 +1,6 @@
 use mathlib.Core.Path.{refl}
 use Rattle.joins.specs.Joins.{plans_agree}
 use Rattle.pairs.proofs.Rows.{inside}
-use borrow.Author.Rules.{rules}
 use Rattle.agreeing.proofs.plans_agree.Goals as goal
 
 -- src/lib.rt:63:17

@@ -1,9 +1,8 @@
-use Prim.Native.Nat.{◌-◌, ◌≤◌}
 use mathlib.Core.Path.{sym, ap, ◌∙◌}
 use native.Mathlib.Omega.{arith}
 use Rattle.plan.specs.declared.Shape.{Shape}
 use Rattle.pairs.proofs.Rows.{inside}
-use Rattle.agreeing.proofs.Agreeing.{SameTo, same_none, same_more, same_all, differ}
+use Rattle.agreeing.proofs.Agreeing.{same_none, same_more, same_all, differ}
 use Rattle.agreeing.proofs.row_agrees.Goals as goal
 
 -- src/lib.rt:19:17

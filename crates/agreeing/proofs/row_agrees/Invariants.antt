@@ -1,9 +1,5 @@
 use Prim.Native.Nat.{◌-◌, ◌≤◌}
-use mathlib.Core.Path.{sym, ap, ◌∙◌}
-use native.Mathlib.Omega.{arith}
-use Rattle.plan.specs.declared.Shape.{Shape}
-use Rattle.pairs.proofs.Rows.{inside}
-use Rattle.agreeing.proofs.Agreeing.{SameTo, same_none, same_more, same_all, differ}
+use Rattle.agreeing.proofs.Agreeing.{SameTo}
 use Rattle.agreeing.proofs.row_agrees.Given as goal
 
 abbrev pub invariant-loop-j : goal.invariant-loop-j

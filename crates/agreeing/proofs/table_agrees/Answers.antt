@@ -1,7 +1,6 @@
 use mathlib.Core.Path.{sym, ◌∙◌}
 use Rattle.pairs.proofs.Rows.{inside}
 use Rattle.agreeing.proofs.Agreeing.{table_yes, table_no}
-use borrow.Author.Rules.{rules}
 use Rattle.agreeing.proofs.table_agrees.Goals as goal
 
 -- src/lib.rt:50:9

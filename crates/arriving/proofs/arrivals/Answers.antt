@@ -4,7 +4,6 @@ use Rattle.plan.specs.declared.Answer.{Answer}
 use Rattle.plan.proofs.Numbers.{accepted_of}
 use Rattle.plan.proofs.Sounds.{accepted_sound}
 use Rattle.arrivals.proofs.Answers.{by_check, no_frame}
-use borrow.Author.Rules.{rules}
 use Rattle.arriving.proofs.arrivals.Goals as goal
 
 -- src/lib.rt:55:9

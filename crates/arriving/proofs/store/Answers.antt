@@ -4,7 +4,6 @@ use Rattle.plan.specs.declared.Answer.{Answer}
 use Rattle.arrivals.proofs.Answers.{answer_is, zero_accepts, both}
 use Rattle.arriving.proofs.Lending.{by_value, too_short, stored_both}
 use Rattle.arrivals.specs.declared.Arrival.{Arrival}
-use borrow.Author.Rules.{rules}
 use Rattle.arriving.proofs.store.Goals as goal
 
 -- src/lib.rt:73:9

@@ -4,7 +4,6 @@ use Rattle.plan.specs.declared.Table.TheVariants.{Frames}
 use Rattle.arrivals.specs.Arrivals.{earliest, latest}
 use Rattle.plan.proofs.Sounds.{accepted_sound}
 use Rattle.arrivals.proofs.Answers.{ticks_fit, given}
-use borrow.Author.Rules.{rules}
 use Rattle.arriving.proofs.ticks_of.Goals as goal
 
 -- src/lib.rt:40:31

@@ -1,15 +1,8 @@
-use borrow.Author.Rules.{rules}
-use Prim.Native.Nat.{ℕ, ◌-◌, ◌≤◌}
-use mathlib.Core.Path.{◌≡◌, refl, sym, subst, ◌∙◌}
-use borrow.Author.Tests.{not-true, not-false}
-use native.Mathlib.Numerals.{add-one}
-use native.Mathlib.Omega.{arith}
+use Prim.Native.Nat.{◌-◌, ◌≤◌}
+use mathlib.Core.Path.{◌≡◌}
 use Rattle.plan.specs.declared.Found.TheVariants.{Nothing}
-use Rattle.plan.specs.declared.Table.TheVariants.{Tasks}
-use Rattle.plan.specs.Image.{rows}
 use Rattle.plan.specs.Search.{first_no}
 use Rattle.plan.specs.Questions.{task_budget}
-use Rattle.plan.proofs.Searching.{turn_yes, stops}
 use Rattle.budgets.proofs.first_off_budget.Given as goal
 
 abbrev pub invariant-loop-task : goal.invariant-loop-task

@@ -3,7 +3,6 @@ use Rattle.plan.specs.declared.Table.TheVariants.{Tasks}
 use Rattle.plan.specs.Image.{shape}
 use Rattle.jobs.proofs.Gathering.{task_word_most}
 use Rattle.budgets.proofs.Budgets.{no_place_left, by_work}
-use borrow.Author.Rules.{rules}
 use Rattle.budgets.proofs.job_budget.Goals as goal
 
 -- src/lib.rt:134:17

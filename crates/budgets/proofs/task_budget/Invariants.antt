@@ -1,14 +1,8 @@
-use borrow.Author.Rules.{rules}
-use Prim.Native.Nat.{ℕ, ◌-◌, ◌≤◌}
-use mathlib.Core.Path.{◌≡◌, refl, sym, subst, ◌∙◌}
+use Prim.Native.Nat.{◌-◌, ◌≤◌}
+use mathlib.Core.Path.{◌≡◌}
 use mathlib.Core.Bool.{true}
-use borrow.Author.Tests.{not-true, not-false}
-use native.Mathlib.Numerals.{add-one}
-use native.Mathlib.Omega.{arith}
 use Rattle.plan.specs.Search.{all}
-use Rattle.plan.specs.Questions as Q
-use Rattle.plan.specs.Questions.{job_budget, task_budget}
-use Rattle.plan.proofs.Searching.{all_turn, all_stops}
+use Rattle.plan.specs.Questions.{job_budget}
 use Rattle.budgets.proofs.task_budget.Given as goal
 
 abbrev pub invariant-loop-job : goal.invariant-loop-job

@@ -1,7 +1,6 @@
 use mathlib.Core.Path.{refl}
 use Rattle.plan.specs.declared.Table.TheVariants.{Buffers}
 use Rattle.plan.specs.Questions.{buffer_ends}
-use borrow.Author.Rules.{rules}
 use Rattle.buffers.proofs.buffer_ends.Goals as goal
 
 -- src/lib.rt:30:19

@@ -1,5 +1,4 @@
 use Rattle.plan.specs.declared.Table.TheVariants.{Buffers}
-use borrow.Author.Rules.{rules}
 use Rattle.buffers.proofs.buffer_jobs.Goals as goal
 
 -- src/lib.rt:40:5

@@ -1,13 +1,8 @@
-use Prim.Native.Nat.{ℕ, ◌-◌, ◌≤◌}
-use mathlib.Core.Path.{◌≡◌, refl, sym, subst, ◌∙◌}
-use native.Mathlib.Omega.{arith}
-use native.Mathlib.Numerals.{add-one}
-use borrow.Author.Tests.{not-true, not-false}
+use Prim.Native.Nat.{◌-◌, ◌≤◌}
+use mathlib.Core.Path.{◌≡◌}
 use Rattle.plan.specs.declared.Found.TheVariants.{Nothing}
 use Rattle.plan.specs.Search.{first_no}
 use Rattle.plan.specs.Questions.{question_at, buffer_questions}
-use Rattle.plan.proofs.Searching.{turn_yes, stops}
-use Rattle.buffers.proofs.Asked.{asks}
 use Rattle.buffers.proofs.first_no.Given as goal
 
 abbrev pub invariant-loop-row : goal.invariant-loop-row

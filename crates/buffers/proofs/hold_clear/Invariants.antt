@@ -1,12 +1,8 @@
-use Prim.Native.Nat.{ℕ, ◌≤◌, ◌-◌}
-use mathlib.Core.Path.{◌≡◌, refl, sym, subst, ◌∙◌}
-use mathlib.Core.Bool.{Bool, true}
-use native.Mathlib.Omega.{arith}
-use native.Mathlib.Numerals.{add-one}
-use borrow.Author.Tests.{not-true, not-false}
-use Rattle.plan.specs.Search.{all, clear}
-use Rattle.plan.specs.Questions.{hold_apart, hold_clear}
-use Rattle.plan.proofs.Searching.{all_turn, all_stops}
+use Prim.Native.Nat.{◌≤◌, ◌-◌}
+use mathlib.Core.Path.{◌≡◌}
+use mathlib.Core.Bool.{true}
+use Rattle.plan.specs.Search.{all}
+use Rattle.plan.specs.Questions.{hold_apart}
 use Rattle.buffers.proofs.hold_clear.Given as goal
 
 abbrev pub invariant-loop-lower : goal.invariant-loop-lower

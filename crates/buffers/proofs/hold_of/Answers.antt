@@ -3,7 +3,6 @@ use Rattle.plan.specs.declared.Table.TheVariants.{Buffers}
 use Rattle.plan.specs.Questions.{hold}
 use Rattle.buffers.specs.Holds.{hold_of}
 use Rattle.buffers.proofs.Rising.{same_jobs}
-use borrow.Author.Rules.{rules}
 use Rattle.buffers.proofs.hold_of.Goals as goal
 
 -- src/lib.rt:75:15

@@ -2,7 +2,6 @@ use mathlib.Core.Path.{refl}
 use Rattle.plan.specs.declared.Table.TheVariants.{Buffers}
 use Rattle.buffers.specs.Holds.{waits}
 use Rattle.buffers.proofs.Rising.{same_jobs}
-use borrow.Author.Rules.{rules}
 use Rattle.buffers.proofs.job_waits.Goals as goal
 
 -- src/lib.rt:42:5

@@ -1,8 +1,7 @@
-use Prim.Native.Nat.{ℕ, ◌-◌, ◌≤◌}
+use Prim.Native.Nat.{ℕ, ◌≤◌}
 use mathlib.Core.Path.{◌≡◌, sym, ap, ◌∙◌}
 use native.Mathlib.Omega.{arith}
 use Rattle.plan.specs.Questions.{question_at, each, buffer_questions}
-use borrow.Author.Rules.{rules}
 use Rattle.buffers.proofs.passes.Goals as goal
 
 -- src/lib.rt:176:15

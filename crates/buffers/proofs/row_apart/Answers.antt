@@ -2,7 +2,6 @@ use mathlib.Core.Path.{refl, sym, ◌∙◌}
 use Rattle.plan.specs.Questions.{hold_apart}
 use Rattle.buffers.specs.Holds.{holds_apart}
 use Rattle.plan.specs.Search.{apart}
-use borrow.Author.Rules.{rules}
 use Rattle.buffers.proofs.row_apart.Goals as goal
 
 -- src/lib.rt:140:1

@@ -2,7 +2,6 @@ use mathlib.Core.Path.{refl}
 use native.Mathlib.Omega.{arith}
 use Rattle.plan.specs.declared.Table.TheVariants.{Buffers}
 use Rattle.plan.specs.Questions.{same_buffer}
-use borrow.Author.Rules.{rules}
 use Rattle.buffers.proofs.same_buffer.Goals as goal
 
 -- src/lib.rt:88:17

@@ -4,7 +4,6 @@ use Rattle.lanes.specs.Words.{Filled}
 use Rattle.plan.specs.declared.Answer.{Answer}
 use native.Mathlib.Omega.{arith}
 use mathlib.Core.Path.{refl, sym, ap, subst, ◌∙◌}
-use borrow.Author.Rules.{rules}
 use Rattle.building.proofs.build.Goals as goal
 
 -- src/lib.rt:25:9

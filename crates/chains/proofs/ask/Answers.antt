@@ -1,10 +1,7 @@
-use borrow.Author.Rules.{rules}
-use Prim.Native.Nat.{◌-◌, ◌≤◌}
 use mathlib.Core.Path.{sym, ◌∙◌}
 use native.Mathlib.Numerals.{add-one}
 use native.Mathlib.Omega.{arith}
 use Rattle.plan.specs.Questions.{chain_questions}
-use Rattle.plan.specs.Held.{Passed}
 use Rattle.plan.proofs.Asking.{passed_none, passed_more, passed_end, refused_at}
 use Rattle.chains.proofs.ask.Goals as goal
 

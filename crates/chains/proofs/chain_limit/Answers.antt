@@ -1,7 +1,6 @@
 use mathlib.Core.Path.{refl}
 use Rattle.paths.proofs.Leading.{tasks_of}
 use Rattle.plan.specs.Questions.{chain_limit}
-use borrow.Author.Rules.{rules}
 use Rattle.chains.proofs.chain_limit.Goals as goal
 
 -- src/lib.rt:41:5

@@ -1,6 +1,5 @@
 use mathlib.Core.Path.{refl}
 use Rattle.plan.specs.Questions.{chain_tasks}
-use borrow.Author.Rules.{rules}
 use Rattle.chains.proofs.chain_tasks.Goals as goal
 
 -- src/lib.rt:16:1

@@ -1,7 +1,6 @@
 use mathlib.Core.Path.{refl}
 use Rattle.paths.proofs.Leading.{tasks_of, passed_one, last_job}
 use Rattle.paths.specs.Walks.{job_within}
-use borrow.Author.Rules.{rules}
 use Rattle.chains.proofs.job_within.Goals as goal
 
 -- src/lib.rt:134:15

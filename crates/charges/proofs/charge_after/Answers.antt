@@ -3,7 +3,6 @@ use native.Mathlib.Omega.{arith}
 use Rattle.plan.specs.declared.Window.{Window}
 use Rattle.plan.specs.Image.{window}
 use Rattle.charges.proofs.Keeping.{core_exists, pays_at_0, keeps, pays}
-use borrow.Author.Rules.{rules}
 use Rattle.charges.proofs.charge_after.Goals as goal
 
 -- src/lib.rt:35:13

@@ -3,7 +3,6 @@ use Rattle.plan.specs.Image.{rows, shape}
 use Rattle.plan.specs.Questions.{charge}
 use Rattle.tallies.proofs.Tallying.{kept_at}
 use Rattle.plan.specs.declared.Table.TheVariants.{Windows}
-use borrow.Author.Rules.{rules}
 use Rattle.charges.proofs.charge_at.Goals as goal
 
 -- src/lib.rt:51:5

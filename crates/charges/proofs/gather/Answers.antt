@@ -1,5 +1,4 @@
 use Rattle.tallies.proofs.Tallying.{kept_fresh}
-use borrow.Author.Rules.{rules}
 use Rattle.plan.specs.Image.{most_vcpus}
 use Rattle.charges.proofs.gather.Goals as goal
 

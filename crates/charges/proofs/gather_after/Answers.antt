@@ -1,12 +1,9 @@
-use borrow.Author.Rules.{rules}
-use Prim.Native.Nat.{◌-◌, ◌≤◌, ◌<◌}
-use mathlib.Core.Path.{◌≡◌, refl, sym, subst, ◌∙◌}
+use Prim.Native.Nat.{◌<◌}
+use mathlib.Core.Path.{◌≡◌, refl, subst, ◌∙◌}
 use native.Mathlib.Omega.{arith}
-use lib.ListN.{length}
 use Rattle.plan.specs.declared.Table.TheVariants.{Windows}
-use Rattle.plan.specs.Image.{rows, shape, most_vcpus}
-use Rattle.tallies.specs.Tallies.{Kept}
-use Rattle.charges.specs.Charges.{ends_before, ChargedTo}
+use Rattle.plan.specs.Image.{rows, shape}
+use Rattle.charges.specs.Charges.{ChargedTo}
 use Rattle.charges.proofs.Charging.{charged_none, charged_more}
 use Rattle.charges.proofs.Keeping.{none_ended, vcpu_inside, end_read, ended_on}
 use Rattle.charges.proofs.gather_after.Goals as goal

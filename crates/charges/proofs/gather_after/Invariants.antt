@@ -1,14 +1,10 @@
-use borrow.Author.Rules.{rules}
-use Prim.Native.Nat.{◌-◌, ◌≤◌, ◌<◌}
-use mathlib.Core.Path.{◌≡◌, refl, sym, subst, ◌∙◌}
-use native.Mathlib.Omega.{arith}
+use Prim.Native.Nat.{◌-◌, ◌≤◌}
+use mathlib.Core.Path.{◌≡◌}
 use lib.ListN.{length}
 use Rattle.plan.specs.declared.Table.TheVariants.{Windows}
-use Rattle.plan.specs.Image.{rows, shape, most_vcpus}
+use Rattle.plan.specs.Image.{rows, most_vcpus}
 use Rattle.tallies.specs.Tallies.{Kept}
 use Rattle.charges.specs.Charges.{ends_before, ChargedTo}
-use Rattle.charges.proofs.Charging.{charged_none, charged_more}
-use Rattle.charges.proofs.Keeping.{none_ended, vcpu_inside, end_read, ended_on}
 use Rattle.charges.proofs.gather_after.Given as goal
 
 abbrev pub invariant-loop-window : goal.invariant-loop-window

@@ -1,7 +1,5 @@
-use borrow.Author.Rules.{rules}
-use Prim.Native.Nat.{ℕ, ◌-◌, ◌≤◌, ◌<◌}
-use mathlib.Core.Path.{◌≡◌, refl, sym, ap, subst, ◌∙◌}
-use native.Mathlib.Omega.{arith}
+use Prim.Native.Nat.{◌-◌, ◌≤◌}
+use mathlib.Core.Path.{◌≡◌}
 use lib.ListN.{length}
 use Rattle.plan.specs.declared.Found.TheVariants.{Nothing}
 use Rattle.plan.specs.Image as Image
@@ -10,7 +8,6 @@ use Rattle.plan.specs.Search.{first_no}
 use Rattle.places.specs.Places.{table_for, place_of, to_of}
 use Rattle.tallies.specs.Tallies.{latest, Kept}
 use Rattle.clashes.specs.Clashes.{clear_of}
-use Rattle.clashes.proofs.Clashing.{none_before, place_inside, clash, clear_on, ends_on}
 use Rattle.places.specs.Index.{most_places}
 use Rattle.clashes.proofs.clash_after.Given as goal
 

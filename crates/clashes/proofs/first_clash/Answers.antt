@@ -1,4 +1,3 @@
-use borrow.Author.Rules.{rules}
 use Rattle.tallies.proofs.Tallying.{kept_fresh}
 use Rattle.places.specs.Index.{most_places}
 use Rattle.clashes.proofs.first_clash.Goals as goal

@@ -3,7 +3,6 @@ use Rattle.joins.specs.Joins.{joined_rows}
 use Rattle.pairs.proofs.Rows.{inside}
 use Rattle.composing.proofs.Counting.{counts_small}
 use Rattle.composing.proofs.Writing.{wrote_size, stored_size, joined_room, joined_wrote}
-use borrow.Author.Rules.{rules}
 use Rattle.composing.proofs.compose.Goals as goal
 
 -- src/lib.rt:146:9

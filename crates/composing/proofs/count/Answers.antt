@@ -1,8 +1,7 @@
-use Prim.Native.Nat.{◌-◌, ◌≤◌}
 use mathlib.Core.Path.{sym, ◌∙◌}
 use native.Mathlib.Omega.{arith}
 use Rattle.joins.specs.Joins.{joined_rows}
-use Rattle.composing.proofs.Counting.{Counting, count_none, turn_small, turn_on, turn_no, count_done}
+use Rattle.composing.proofs.Counting.{count_none, turn_small, turn_on, turn_no, count_done}
 use Rattle.composing.proofs.count.Goals as goal
 
 -- src/lib.rt:44:21

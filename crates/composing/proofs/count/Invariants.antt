@@ -1,8 +1,6 @@
 use Prim.Native.Nat.{◌-◌, ◌≤◌}
-use mathlib.Core.Path.{sym, ◌∙◌}
-use native.Mathlib.Omega.{arith}
 use Rattle.joins.specs.Joins.{joined_rows}
-use Rattle.composing.proofs.Counting.{Counting, count_none, turn_small, turn_on, turn_no, count_done}
+use Rattle.composing.proofs.Counting.{Counting}
 use Rattle.composing.proofs.count.Given as goal
 
 abbrev pub invariant-loop-i : goal.invariant-loop-i

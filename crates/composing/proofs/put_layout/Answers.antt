@@ -1,15 +1,12 @@
-use Prim.Native.Nat.{ℕ, ◌+◌, ◌*◌, ◌-◌, ◌≤◌}
-use mathlib.Core.Path.{◌≡◌, refl, sym, ap, ◌∙◌}
-use mathlib.Core.List.{List}
+use Prim.Native.Nat.{◌*◌}
+use mathlib.Core.Path.{refl, sym, ap, ◌∙◌}
 use native.Mathlib.Omega.{arith}
 use lib.ListN.{length, get_or}
 use Rattle.plan.specs.declared.Shape.{Shape}
-use Rattle.plan.specs.declared.Table.{Table}
 use Rattle.tables.specs.Tables.{table_count, table_at}
 use Rattle.tables.proofs.Shapes.{row_words}
 use Rattle.tallies.proofs.Tallying.{kept_at}
-use Rattle.composing.specs.Composing.{Wrote, Tallied}
-use Rattle.composing.proofs.Writing.{stored_size, layout_end, wrote_none, wrote_as, end_to, places_to, end_first, places_first, layout_turn, layout_done}
+use Rattle.composing.proofs.Writing.{stored_size, layout_end, wrote_none, wrote_as, end_first, places_first, layout_turn, layout_done}
 use Rattle.composing.proofs.put_layout.Goals as goal
 
 -- src/lib.rt:127:5

@@ -1,14 +1,8 @@
-use Prim.Native.Nat.{ℕ, ◌+◌, ◌*◌, ◌-◌, ◌≤◌}
-use mathlib.Core.Path.{◌≡◌, ap, ◌∙◌}
-use native.Mathlib.Omega.{arith}
+use Prim.Native.Nat.{◌+◌, ◌*◌, ◌-◌, ◌≤◌}
+use mathlib.Core.Path.{◌≡◌}
 use lib.ListN.{take}
-use lib.Seq.{sets}
-use Rattle.plan.specs.declared.Shape.{Shape}
-use Rattle.plan.specs.Boundary.{bytes_of}
 use Rattle.pairs.specs.Pairs.{both_row}
-use Rattle.pairs.proofs.Rows.{both_wide}
 use Rattle.composing.specs.Composing.{Wrote}
-use Rattle.composing.proofs.Writing.{wrote_none, wrote_size, wrote_turn, wrote_row}
 use Rattle.composing.proofs.put_row.Given as goal
 
 abbrev pub invariant-loop-j : goal.invariant-loop-j

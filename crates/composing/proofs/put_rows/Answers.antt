@@ -1,10 +1,9 @@
-use Prim.Native.Nat.{ℕ, ◌-◌, ◌≤◌}
+use Prim.Native.Nat.{ℕ}
 use mathlib.Core.Path.{◌≡◌, sym, ap}
 use mathlib.Core.List.{flat_map}
 use native.Mathlib.Omega.{arith}
 use Rattle.plan.specs.Image.{shape}
 use Rattle.picking.specs.Picking.{picked_rows}
-use Rattle.composing.specs.Composing.{Wrote}
 use Rattle.composing.proofs.Writing.{wrote_none, wrote_more, wrote_as, wrote_size, flat_none, flat_next, flat_long, rows_room, numbers_low}
 use Rattle.composing.proofs.put_rows.Goals as goal
 

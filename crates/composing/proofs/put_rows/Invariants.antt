@@ -1,11 +1,7 @@
-use Prim.Native.Nat.{ℕ, ◌-◌, ◌≤◌}
-use mathlib.Core.Path.{◌≡◌, sym, ap}
+use Prim.Native.Nat.{◌-◌, ◌≤◌}
 use mathlib.Core.List.{flat_map}
-use native.Mathlib.Omega.{arith}
-use Rattle.plan.specs.Image.{shape}
 use Rattle.picking.specs.Picking.{picked_rows}
 use Rattle.composing.specs.Composing.{Wrote}
-use Rattle.composing.proofs.Writing.{wrote_none, wrote_more, wrote_as, wrote_size, flat_none, flat_next, flat_long, rows_room, numbers_low}
 use Rattle.composing.proofs.put_rows.Given as goal
 
 abbrev pub invariant-loop-i : goal.invariant-loop-i

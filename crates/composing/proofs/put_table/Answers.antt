@@ -4,7 +4,6 @@ use mathlib.Core.List.{List, flat_map}
 use native.Mathlib.Omega.{arith}
 use lib.ListN.{length}
 use Rattle.composing.proofs.Writing.{wrote_as, flat_long}
-use borrow.Author.Rules.{rules}
 use Rattle.composing.proofs.put_table.Goals as goal
 
 -- src/lib.rt:99:5

@@ -1,8 +1,6 @@
-use Prim.Native.Nat.{◌-◌, ◌≤◌}
 use mathlib.Core.Path.{◌≡◌, sym, ap, ◌∙◌}
 use native.Mathlib.Omega.{arith}
 use Rattle.joins.specs.Joins.{joined_rows}
-use Rattle.composing.specs.Composing.{Wrote}
 use Rattle.composing.proofs.Writing.{wrote_none, wrote_as, wrote_size, words_to, words_first, words_all, table_room, tables_turn}
 use Rattle.composing.proofs.put_tables.Goals as goal
 

@@ -4,7 +4,6 @@ use mathlib.Core.List.{List, flat_map}
 use lib.ListN.{length}
 use Rattle.picking.proofs.Picks.{picked_long}
 use Rattle.composing.proofs.Writing.{flat_long}
-use borrow.Author.Rules.{rules}
 use Rattle.composing.proofs.rows_joined.Goals as goal
 
 -- src/lib.rt:29:1

@@ -1,6 +1,5 @@
 use native.Mathlib.Omega.{arith}
 use Rattle.composing.proofs.Fitting.{counted_fits, too_many, too_long, all_written}
-use borrow.Author.Rules.{rules}
 use Rattle.composing.proofs.write.Goals as goal
 
 -- src/lib.rt:163:9

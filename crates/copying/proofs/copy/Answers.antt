@@ -1,6 +1,5 @@
 use mathlib.Core.Path.{refl, ◌∙◌}
 use Rattle.drafts.specs.Edits.{copied}
-use borrow.Author.Rules.{rules}
 use Rattle.copying.proofs.copy.Goals as goal
 
 pub returns : goal.returns

@@ -3,7 +3,6 @@ use native.Mathlib.Omega.{arith}
 use Rattle.plan.specs.declared.Table.TheVariants.{Cores}
 use Rattle.plan.specs.Image.{shape}
 use Rattle.drafts.specs.Drafts.{draft_words, core_at}
-use borrow.Author.Rules.{rules}
 use Rattle.copying.proofs.copy_core.Goals as goal
 
 pub bounds-words-core : goal.bounds-words-core

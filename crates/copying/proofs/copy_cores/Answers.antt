@@ -1,11 +1,11 @@
-use Prim.Native.Nat.{ℕ, ◌-◌, ◌<◌, ◌≤◌}
-use mathlib.Core.Path.{◌≡◌, refl, ap, ◌∙◌, subst}
+use Prim.Native.Nat.{ℕ, ◌<◌}
+use mathlib.Core.Path.{refl, ap, ◌∙◌, subst}
 use mathlib.Core.List.{◌∷◌, []}
 use native.Mathlib.Omega.{arith}
 use lib.ListN.{length}
 use Rattle.plan.specs.declared.Table.TheVariants.{Cores}
 use Rattle.plan.specs.Image as Image
-use Rattle.plan.specs.Image.{rows, shape}
+use Rattle.plan.specs.Image.{shape}
 use Rattle.drafts.specs.Drafts.{core_at}
 use Rattle.drafts.specs.Edits.{store_rows}
 use Rattle.drafts.proofs.Storing.{length_rows, rows_turn}

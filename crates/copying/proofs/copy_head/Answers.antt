@@ -2,7 +2,6 @@ use mathlib.Core.Path.{refl}
 use native.Mathlib.Omega.{arith}
 use lib.ListN.{length-set}
 use Rattle.drafts.specs.Drafts.{draft_words}
-use borrow.Author.Rules.{rules}
 use Rattle.copying.proofs.copy_head.Goals as goal
 
 pub bounds-words-0 : goal.bounds-words-0

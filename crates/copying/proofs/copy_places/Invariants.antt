@@ -1,10 +1,7 @@
-use Prim.Native.Nat.{ℕ, ◌-◌, ◌≤◌}
-use mathlib.Core.Path.{◌≡◌, refl, ap, ◌∙◌}
-use native.Mathlib.Omega.{arith}
-use lib.ListN.{length}
-use Rattle.drafts.specs.Drafts.{places, place_at}
+use Prim.Native.Nat.{◌-◌, ◌≤◌}
+use mathlib.Core.Path.{◌≡◌}
+use Rattle.drafts.specs.Drafts.{place_at}
 use Rattle.drafts.specs.Edits.{store_rows, piece_words, made_piece}
-use Rattle.drafts.proofs.Storing.{length_rows, rows_turn}
 use Rattle.copying.proofs.copy_places.Given as goal
 
 abbrev pub invariant-loop-place : goal.invariant-loop-place

@@ -6,7 +6,6 @@ use Rattle.plan.specs.declared.Table.TheVariants.{Tasks}
 use Rattle.plan.specs.Image.{shape}
 use Rattle.drafts.specs.Drafts.{draft_words, task_at}
 use Rattle.draftwords.proofs.Stores.{three_words}
-use borrow.Author.Rules.{rules}
 use Rattle.copying.proofs.copy_task.Goals as goal
 
 pub bounds-words-at : goal.bounds-words-at

@@ -2,7 +2,6 @@ use Prim.Native.Nat.{ℕ, ◌<◌, ◌≤◌}
 use mathlib.Core.Path.{refl, subst}
 use borrow.Author.Tests.{lt-ltb, le-ltb}
 use Rattle.drafts.specs.Edits.{made_piece, no_piece}
-use borrow.Author.Rules.{rules}
 use Rattle.copying.proofs.made_piece.Goals as goal
 
 pub returns-then-place-rows_of : goal.returns-then-place-rows_of

@@ -1,15 +1,14 @@
 use Rattle.counting.proofs.Counting.{turn_ready}
-use Prim.Native.Nat.{ℕ, ◌+◌, ◌-◌, ◌≤◌}
+use Prim.Native.Nat.{ℕ, ◌+◌}
 use mathlib.Core.Path.{◌≡◌, refl, ap, ◌∙◌}
 use mathlib.Core.List.{List}
 use native.Mathlib.Numerals.{add-one}
 use native.Mathlib.Omega.{arith}
-use lib.ListN.{length}
 use lib.Seq.{sets}
 use Rattle.drafts.specs.Drafts.{places, place_at}
 use Rattle.drafts.specs.Edits.{store_rows}
 use Rattle.counting.specs.Counting.{counted}
-use Rattle.counting.proofs.Counting.{counted_to, length_counted, counted_next}
+use Rattle.counting.proofs.Counting.{counted_to, counted_next}
 use Rattle.counting.proofs.count_all.Goals as goal
 
 pub loop-place-init : goal.loop-place-init

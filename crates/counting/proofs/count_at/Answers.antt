@@ -1,6 +1,5 @@
 use mathlib.Core.Path.{refl, sym, ◌∙◌}
 use Rattle.counting.proofs.Counting.{counted_none, counted_two}
-use borrow.Author.Rules.{rules}
 use Rattle.counting.proofs.count_at.Goals as goal
 
 pub returns-then-is_free : goal.returns-then-is_free

@@ -1,5 +1,4 @@
 use mathlib.Core.Path.{refl, ◌∙◌}
-use borrow.Author.Rules.{rules}
 use Rattle.counting.proofs.count_core.Goals as goal
 
 pub with_part-total-requires : goal.with_part-total-requires

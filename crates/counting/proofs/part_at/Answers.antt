@@ -1,6 +1,5 @@
 use mathlib.Core.Path.{refl, sym, ◌∙◌}
 use Rattle.counting.specs.Counting.{rank_part}
-use borrow.Author.Rules.{rules}
 use Rattle.counting.proofs.part_at.Goals as goal
 
 pub returns-then-is_free : goal.returns-then-is_free

@@ -1,11 +1,8 @@
-use Rattle.counting.proofs.Counting.{lower_next, lower_fits}
-use Prim.Native.Nat.{ℕ, ◌-◌, ◌≤◌}
-use mathlib.Core.Path.{◌≡◌, sym, ap, ◌∙◌}
+use Prim.Native.Nat.{◌-◌, ◌≤◌}
+use mathlib.Core.Path.{◌≡◌}
 use mathlib.Core.Bool.{not, ◌&&◌}
-use native.Mathlib.Omega.{arith}
 use Rattle.plan.specs.Search.{count}
-use Rattle.plan.proofs.Tests.{no_count}
-use Rattle.drafts.specs.Drafts.{places, is_below, piece_at, is_free, rank}
+use Rattle.drafts.specs.Drafts.{is_below, piece_at, is_free, rank}
 use Rattle.counting.proofs.rank_of.Given as goal
 
 abbrev pub invariant-loop-place : goal.invariant-loop-place

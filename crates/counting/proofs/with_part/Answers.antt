@@ -1,6 +1,5 @@
 use mathlib.Core.Path.{refl}
 use Rattle.counting.specs.Counting.{with_part}
-use borrow.Author.Rules.{rules}
 use Rattle.counting.proofs.with_part.Goals as goal
 
 pub overflow_sub-result : goal.overflow_sub-result

@@ -1,8 +1,5 @@
-use Rattle.cursors.proofs.Looking.{cursor_next, current_end, current_row}
 use Rattle.cursors.specs.Taken.{Cursor}
 use Rattle.plan.specs.Image.{rows}
-use native.Mathlib.Omega.{arith}
-use mathlib.Core.Path.{ap, ◌∙◌}
 use Prim.Native.Nat.{◌-◌}
 use Rattle.cursors.proofs.move_on.Given as goal
 

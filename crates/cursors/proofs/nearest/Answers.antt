@@ -5,7 +5,6 @@ use Rattle.plan.proofs.Sounds.{accepted_sound}
 use Rattle.plan.specs.Image.{rows}
 use native.Mathlib.Omega.{arith}
 use mathlib.Core.Path.{sym, ap, subst, ◌∙◌}
-use borrow.Author.Rules.{rules}
 use Rattle.cursors.proofs.nearest.Goals as goal
 
 -- src/lib.rt:87:14

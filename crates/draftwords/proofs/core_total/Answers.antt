@@ -1,6 +1,5 @@
 use native.Mathlib.Omega.{arith}
 use Rattle.drafts.specs.Drafts.{draft_words, core_at, core_total}
-use borrow.Author.Rules.{rules}
 use Rattle.draftwords.proofs.core_total.Goals as goal
 
 pub bounds-words-core : goal.bounds-words-core

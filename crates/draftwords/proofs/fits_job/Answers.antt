@@ -3,7 +3,6 @@ use native.Mathlib.Omega.{arith}
 use Rattle.terms.proofs.Products.{product_fits}
 use Rattle.drafts.specs.Drafts.{task_jobs, fits_job}
 use Rattle.draftwords.proofs.Headed.{head_parts, task_parts}
-use borrow.Author.Rules.{rules}
 use Rattle.draftwords.proofs.fits_job.Goals as goal
 
 pub task_core-core-requires : goal.task_core-core-requires

@@ -1,6 +1,5 @@
 use native.Mathlib.Omega.{arith}
 use Rattle.drafts.specs.Drafts.{draft_words, places, place_at, piece_at, is_free}
-use borrow.Author.Rules.{rules}
 use Rattle.draftwords.proofs.is_free.Goals as goal
 
 pub bounds-words-place : goal.bounds-words-place

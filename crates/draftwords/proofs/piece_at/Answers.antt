@@ -1,6 +1,5 @@
 use native.Mathlib.Omega.{arith}
 use Rattle.drafts.specs.Drafts.{draft_words, places, place_at, piece_at}
-use borrow.Author.Rules.{rules}
 use Rattle.draftwords.proofs.piece_at.Goals as goal
 
 pub bounds-words-at : goal.bounds-words-at

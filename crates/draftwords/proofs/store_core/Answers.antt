@@ -1,7 +1,6 @@
 use mathlib.Core.Path.{refl}
 use native.Mathlib.Omega.{arith}
 use Rattle.drafts.specs.Drafts.{draft_words, core_at}
-use borrow.Author.Rules.{rules}
 use Rattle.draftwords.proofs.store_core.Goals as goal
 
 pub bounds-words-core : goal.bounds-words-core

@@ -1,7 +1,6 @@
 use native.Mathlib.Omega.{arith}
 use lib.ListN.{length-set}
 use Rattle.draftwords.proofs.Stores.{four_words}
-use borrow.Author.Rules.{rules}
 use Rattle.draftwords.proofs.store_piece.Goals as goal
 
 -- src/lib.rt:78:5

@@ -1,6 +1,5 @@
 use native.Mathlib.Omega.{arith}
 use Rattle.drafts.specs.Drafts.{draft_words, places, place_at}
-use borrow.Author.Rules.{rules}
 use Rattle.draftwords.proofs.store_place.Goals as goal
 
 pub store_piece-requires : goal.store_piece-requires

@@ -2,7 +2,6 @@ use native.Mathlib.Omega.{arith}
 use lib.ListN.{length-set}
 use Rattle.drafts.specs.Drafts.{draft_words, places, place_at}
 use Rattle.draftwords.proofs.Stores.{two_words}
-use borrow.Author.Rules.{rules}
 use Rattle.draftwords.proofs.store_sums.Goals as goal
 
 pub bounds-words-at : goal.bounds-words-at

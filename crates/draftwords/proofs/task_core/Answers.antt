@@ -1,6 +1,5 @@
 use native.Mathlib.Omega.{arith}
 use Rattle.drafts.specs.Drafts.{draft_words, task_at, task_core}
-use borrow.Author.Rules.{rules}
 use Rattle.draftwords.proofs.task_core.Goals as goal
 
 pub bounds-words-task : goal.bounds-words-task

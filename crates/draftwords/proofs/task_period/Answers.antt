@@ -1,6 +1,5 @@
 use native.Mathlib.Omega.{arith}
 use Rattle.drafts.specs.Drafts.{draft_words, task_at, task_period}
-use borrow.Author.Rules.{rules}
 use Rattle.draftwords.proofs.task_period.Goals as goal
 
 pub bounds-words-task : goal.bounds-words-task

@@ -1,6 +1,5 @@
 use native.Mathlib.Omega.{arith}
 use Rattle.drafts.specs.Drafts.{draft_words, places, place_at, total_at}
-use borrow.Author.Rules.{rules}
 use Rattle.draftwords.proofs.total_at.Goals as goal
 
 pub bounds-words-place : goal.bounds-words-place

@@ -1,8 +1,6 @@
 use mathlib.Core.Path.{sym, ◌∙◌}
-use borrow.Author.Tests.{not-true, not-false}
 use Rattle.readings.proofs.Readings.{headed_of}
 use Rattle.edits.proofs.Asked.{draft_room, task_there, add_33, add_5, add_10, add_34, add_asked, add_0}
-use borrow.Author.Rules.{rules}
 use Rattle.edits.proofs.add_piece.Goals as goal
 
 pub returns-then-not-is_draft : goal.returns-then-not-is_draft

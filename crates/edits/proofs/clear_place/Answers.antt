@@ -1,7 +1,6 @@
 use mathlib.Core.Path.{refl}
 use native.Mathlib.Omega.{arith}
 use Rattle.drafts.specs.Drafts.{draft_words, places, place_at}
-use borrow.Author.Rules.{rules}
 use Rattle.edits.proofs.clear_place.Goals as goal
 
 pub bounds-words-place : goal.bounds-words-place

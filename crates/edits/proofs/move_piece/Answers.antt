@@ -1,12 +1,10 @@
 use mathlib.Core.Path.{sym, ap, ◌∙◌}
 use native.Mathlib.Omega.{arith}
-use borrow.Author.Tests.{not-true, not-false}
 use Rattle.plan.specs.declared.Piece.{Piece}
 use Rattle.drafts.specs.Drafts.{draft_words, places, place_at, fits_job}
 use Rattle.drafts.specs.Edits.{moved_to}
 use Rattle.readings.proofs.Readings.{headed_of, held_place}
 use Rattle.edits.proofs.Moving.{move_33, move_10, move_0, move_held}
-use borrow.Author.Rules.{rules}
 use Rattle.edits.proofs.move_piece.Goals as goal
 
 pub returns-then-not-holds_piece : goal.returns-then-not-holds_piece

@@ -6,7 +6,6 @@ use lib.Seq.{sets}
 use Rattle.drafts.specs.Drafts.{place_at}
 use Rattle.drafts.specs.Edits.{piece_words}
 use Rattle.edits.proofs.Adding.{add_room, add_countable, own_fits, counted_room, stored_room, core_ready, is_placed, ends_put}
-use borrow.Author.Rules.{rules}
 use Rattle.edits.proofs.put_piece.Goals as goal
 
 pub task_core-core-requires : goal.task_core-core-requires

@@ -1,7 +1,5 @@
 use mathlib.Core.Path.{sym, ◌∙◌}
-use borrow.Author.Tests.{not-true, not-false}
 use Rattle.edits.proofs.Asked.{remove_33, remove_asked, remove_0}
-use borrow.Author.Rules.{rules}
 use Rattle.edits.proofs.remove_piece.Goals as goal
 
 pub returns-then-not-holds_piece : goal.returns-then-not-holds_piece

@@ -1,5 +1,4 @@
 use Rattle.edits.proofs.Removing.{remove_room, emptied_ready, is_counted, less_ready, ends_freed}
-use borrow.Author.Rules.{rules}
 use Rattle.edits.proofs.take_piece.Goals as goal
 
 pub piece_at-piece-requires : goal.piece_at-piece-requires

@@ -1,16 +1,9 @@
-use Prim.Native.Nat.{ℕ, ◌≤◌, ◌-◌}
-use mathlib.Core.Path.{◌≡◌, refl, sym, subst, ◌∙◌}
-use native.Mathlib.Omega.{arith}
-use native.Mathlib.Numerals.{add-one}
-use borrow.Author.Tests.{not-true, not-false}
+use Prim.Native.Nat.{◌≤◌, ◌-◌}
+use mathlib.Core.Path.{◌≡◌}
 use Rattle.plan.specs.declared.Found.TheVariants.{Nothing}
-use Rattle.plan.specs.declared.Table.TheVariants.{Streams}
-use Rattle.plan.specs.Image.{rows}
 use Rattle.plan.specs.Search.{first_no}
 use Rattle.plan.specs.Questions.{each_job}
-use Rattle.plan.proofs.Searching.{turn_yes, stops}
 use Rattle.frames.specs.Index.{once_each}
-use Rattle.frames.proofs.Once.{first_agrees}
 use Rattle.frames.proofs.first_unframed.Given as goal
 
 abbrev pub invariant-loop-stream : goal.invariant-loop-stream

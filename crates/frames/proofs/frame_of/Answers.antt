@@ -1,6 +1,5 @@
 use native.Mathlib.Omega.{arith}
 use Rattle.frames.proofs.Reading.{place_inside, frame_read}
-use borrow.Author.Rules.{rules}
 use Rattle.frames.proofs.frame_of.Goals as goal
 
 -- src/lib.rt:181:5

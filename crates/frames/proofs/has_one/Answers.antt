@@ -1,7 +1,6 @@
 use native.Mathlib.Omega.{arith}
 use Rattle.frames.proofs.Placing.{HopOf}
 use Rattle.frames.proofs.Reading.{has_one_kept, has_one_past}
-use borrow.Author.Rules.{rules}
 use Rattle.frames.proofs.has_one.Goals as goal
 
 -- src/lib.rt:111:1

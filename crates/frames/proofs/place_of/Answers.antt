@@ -3,7 +3,6 @@ use native.Mathlib.Omega.{arith}
 use lib.ListN.{get_or}
 use Rattle.frames.proofs.Placing.{place_fits}
 use Rattle.frames.proofs.Gathering.{word_most, word_place}
-use borrow.Author.Rules.{rules}
 use Rattle.frames.proofs.place_of.Goals as goal
 
 -- src/lib.rt:62:18

@@ -1,10 +1,7 @@
-use Prim.Native.Nat.{ℕ, ◌-◌, ◌≤◌}
-use mathlib.Core.Path.{◌≡◌, sym, ap, subst, ◌∙◌}
+use mathlib.Core.Path.{◌≡◌, subst, ◌∙◌}
 use native.Mathlib.Omega.{arith}
-use lib.ListN.{length, length-replicate}
 use Rattle.plan.specs.declared.Table.TheVariants.{Streams}
-use Rattle.plan.specs.Image.{rows, shape, most_streams}
-use Rattle.frames.specs.Index.{begins, frame_words}
+use Rattle.plan.specs.Image.{rows, shape}
 use Rattle.frames.proofs.Gathering.{Begun, begins_none, begins_more, begun_none, begins_most, begun_more, taken_none}
 use Rattle.frames.proofs.place_streams.Goals as goal
 

@@ -1,11 +1,8 @@
-use Prim.Native.Nat.{ℕ, ◌-◌, ◌≤◌}
-use mathlib.Core.Path.{◌≡◌, sym, ap, subst, ◌∙◌}
-use native.Mathlib.Omega.{arith}
-use lib.ListN.{length, length-replicate}
-use Rattle.plan.specs.declared.Table.TheVariants.{Streams}
-use Rattle.plan.specs.Image.{rows, shape, most_streams}
-use Rattle.frames.specs.Index.{begins, frame_words}
-use Rattle.frames.proofs.Gathering.{Begun, begins_none, begins_more, begun_none, begins_most, begun_more, taken_none}
+use Prim.Native.Nat.{◌-◌, ◌≤◌}
+use mathlib.Core.Path.{◌≡◌}
+use Rattle.plan.specs.Image.{most_streams}
+use Rattle.frames.specs.Index.{begins}
+use Rattle.frames.proofs.Gathering.{Begun}
 use Rattle.frames.proofs.place_streams.Given as goal
 
 abbrev pub invariant-loop-stream : goal.invariant-loop-stream

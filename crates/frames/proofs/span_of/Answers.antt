@@ -3,7 +3,6 @@ use native.Mathlib.Omega.{arith}
 use Rattle.plan.specs.declared.Table.TheVariants.{Streams}
 use Rattle.frames.specs.Index.{span}
 use Rattle.frames.proofs.Placing.{span_most}
-use borrow.Author.Rules.{rules}
 use Rattle.frames.proofs.span_of.Goals as goal
 
 -- src/lib.rt:37:5

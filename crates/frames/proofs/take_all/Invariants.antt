@@ -1,8 +1,4 @@
 use Prim.Native.Nat.{◌-◌, ◌≤◌}
-use mathlib.Core.Path.{◌≡◌, sym, subst, ◌∙◌}
-use native.Mathlib.Omega.{arith}
-use Rattle.plan.specs.declared.Table.TheVariants.{Frames}
-use Rattle.plan.specs.Image.{rows}
 use Rattle.frames.specs.Index.{Taken}
 use Rattle.frames.proofs.take_all.Given as goal
 

@@ -5,7 +5,6 @@ use Rattle.plan.specs.declared.Frame.{Frame}
 use Rattle.plan.specs.declared.Table.TheVariants.{Frames}
 use Rattle.frames.specs.Index.{place, frame_place}
 use Rattle.frames.proofs.Gathering.{few_there, taken_in, taken_past, capped_is, capped_past}
-use borrow.Author.Rules.{rules}
 use Rattle.plan.specs.Image.{most_frames}
 use Rattle.frames.proofs.take_in.Goals as goal
 

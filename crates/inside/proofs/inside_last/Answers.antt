@@ -2,7 +2,6 @@ use mathlib.Core.Path.{refl, ◌∙◌}
 use native.Mathlib.Omega.{arith}
 use Rattle.inside.specs.Holders.{inside_last}
 use Rattle.inside.proofs.Holding.{one_named}
-use borrow.Author.Rules.{rules}
 use Rattle.inside.proofs.inside_last.Goals as goal
 
 -- src/lib.rt:63:9

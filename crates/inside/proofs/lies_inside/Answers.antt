@@ -1,7 +1,6 @@
 use mathlib.Core.Path.{refl}
 use Rattle.plan.specs.declared.Table.TheVariants.{Pieces}
 use Rattle.plan.specs.Questions.{inside}
-use borrow.Author.Rules.{rules}
 use Rattle.inside.proofs.lies_inside.Goals as goal
 
 -- src/lib.rt:31:25

@@ -1,21 +1,18 @@
-use borrow.Author.Rules.{rules}
-use Prim.Native.Nat.{ℕ, ◌-◌, ◌≤◌, ◌<◌}
+use Prim.Native.Nat.{ℕ, ◌<◌}
 use mathlib.Core.Path.{◌≡◌, refl, sym, ap, subst, ◌∙◌}
-use borrow.Author.Tests.{not-true, not-false}
 use native.Mathlib.Nat.{not-suc-le-zero}
 use native.Mathlib.Numerals.{add-one}
 use native.Mathlib.Omega.{arith}
-use lib.ListN.{length, get_or}
+use lib.ListN.{get_or}
 use Rattle.plan.specs.declared.Found.TheVariants.{Nothing}
 use Rattle.plan.specs.declared.Piece.{Piece}
-use Rattle.plan.specs.declared.Table.TheVariants.{Windows, Pieces}
-use Rattle.plan.specs.Image.{rows, piece, most_vcpus}
+use Rattle.plan.specs.declared.Table.TheVariants.{Pieces}
+use Rattle.plan.specs.Image.{rows, piece}
 use Rattle.plan.specs.Search.{first_no}
 use Rattle.plan.specs.Questions.{piece_inside}
 use Rattle.plan.proofs.Searching.{turn_yes, stops}
-use Rattle.tallies.specs.Tallies.{Kept}
-use Rattle.inside.specs.Holders.{holders, inside_last, vcpu_of, Begun}
-use Rattle.inside.proofs.Holding.{none_held, holder_most, piece_inside_words, holder_read, asked_last, Led, led_on}
+use Rattle.inside.specs.Holders.{inside_last, vcpu_of, Begun}
+use Rattle.inside.proofs.Holding.{none_held, holder_most, piece_inside_words, holder_read, asked_last, led_on}
 use Rattle.inside.proofs.outside_after.Goals as goal
 
 -- src/lib.rt:82:9

@@ -1,15 +1,11 @@
-use borrow.Author.Rules.{rules}
-use Prim.Native.Nat.{◌-◌, ◌≤◌, ◌<◌}
-use mathlib.Core.Path.{◌≡◌, refl, ap}
-use native.Mathlib.Omega.{arith}
-use lib.ListN.{length, length-set}
-use Rattle.plan.specs.declared.Window.{Window}
+use Prim.Native.Nat.{◌-◌, ◌≤◌}
+use mathlib.Core.Path.{◌≡◌}
+use lib.ListN.{length}
 use Rattle.plan.specs.declared.Table.TheVariants.{Windows}
 use Rattle.plan.specs.Image as Image
 use Rattle.plan.specs.Image.{rows, window, most_vcpus}
 use Rattle.tallies.specs.Tallies.{Kept}
 use Rattle.inside.specs.Holders.{holders, Starting}
-use Rattle.inside.proofs.Holding.{vcpu_inside, held_on, starting_on}
 use Rattle.inside.proofs.take_windows.Given as goal
 
 abbrev pub invariant-loop-window : goal.invariant-loop-window

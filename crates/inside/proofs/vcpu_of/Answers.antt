@@ -1,7 +1,6 @@
 use mathlib.Core.Path.{refl}
 use Rattle.plan.specs.declared.Table.TheVariants.{Pieces}
 use Rattle.inside.specs.Holders.{vcpu_of}
-use borrow.Author.Rules.{rules}
 use Rattle.inside.proofs.vcpu_of.Goals as goal
 
 -- src/lib.rt:73:5

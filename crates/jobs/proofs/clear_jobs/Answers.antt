@@ -1,7 +1,6 @@
-use Prim.Native.Nat.{◌-◌, ◌≤◌}
 use mathlib.Core.Path.{◌≡◌, refl, subst}
 use native.Mathlib.Omega.{arith}
-use lib.ListN.{length, length-set}
+use lib.ListN.{length-set}
 use Rattle.jobs.specs.Times.{Cleared}
 use Rattle.jobs.proofs.Gathering.{cleared_none, cleared_more}
 use Rattle.plan.specs.Image.{most_pieces}

@@ -1,9 +1,7 @@
 use Prim.Native.Nat.{◌-◌, ◌≤◌}
-use mathlib.Core.Path.{◌≡◌, refl, subst}
-use native.Mathlib.Omega.{arith}
-use lib.ListN.{length, length-set}
+use mathlib.Core.Path.{◌≡◌}
+use lib.ListN.{length}
 use Rattle.jobs.specs.Times.{Cleared}
-use Rattle.jobs.proofs.Gathering.{cleared_none, cleared_more}
 use Rattle.plan.specs.Image.{most_pieces}
 use Rattle.jobs.proofs.clear_jobs.Given as goal
 

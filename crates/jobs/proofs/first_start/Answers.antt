@@ -1,6 +1,5 @@
 use native.Mathlib.Omega.{arith}
 use Rattle.jobs.proofs.Gathering.{place_inside, first_read}
-use borrow.Author.Rules.{rules}
 use Rattle.jobs.proofs.first_start.Goals as goal
 
 -- src/lib.rt:179:17

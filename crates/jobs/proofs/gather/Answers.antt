@@ -1,7 +1,6 @@
 use Prim.Native.Nat.{ℕ}
 use mathlib.Core.Path.{subst}
 use Rattle.jobs.specs.Times.{Cleared}
-use borrow.Author.Rules.{rules}
 use Rattle.plan.specs.Image.{most_pieces}
 use Rattle.jobs.proofs.gather.Goals as goal
 

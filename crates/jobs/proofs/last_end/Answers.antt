@@ -1,6 +1,5 @@
 use native.Mathlib.Omega.{arith}
 use Rattle.jobs.proofs.Gathering.{place_inside, last_read}
-use borrow.Author.Rules.{rules}
 use Rattle.jobs.proofs.last_end.Goals as goal
 
 -- src/lib.rt:188:17

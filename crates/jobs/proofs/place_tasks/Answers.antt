@@ -1,11 +1,8 @@
-use borrow.Author.Rules.{rules}
-use Prim.Native.Nat.{◌-◌, ◌≤◌}
 use mathlib.Core.Path.{◌≡◌, refl, subst, ◌∙◌}
 use native.Mathlib.Omega.{arith}
-use lib.ListN.{length, length-set}
+use lib.ListN.{length-set}
 use Rattle.plan.specs.declared.Table.TheVariants.{Tasks}
 use Rattle.plan.specs.Image.{rows, shape}
-use Rattle.jobs.specs.Times.{task_place}
 use Rattle.jobs.proofs.Gathering.{PlacedTo, placed_none, placed_more, place_0, place_next, place_fits, gathered_none}
 use Rattle.jobs.proofs.place_tasks.Goals as goal
 

@@ -1,7 +1,5 @@
-use Prim.Native.Nat.{◌-◌, ◌≤◌}
 use mathlib.Core.Path.{◌≡◌, refl, subst, ◌∙◌}
 use native.Mathlib.Omega.{arith}
-use lib.ListN.{length}
 use Rattle.plan.specs.declared.Table.TheVariants.{Pieces}
 use Rattle.plan.specs.Image.{rows}
 use Rattle.jobs.specs.Times.{Gathered}

@@ -1,9 +1,6 @@
 use Prim.Native.Nat.{◌-◌, ◌≤◌}
-use mathlib.Core.Path.{◌≡◌, refl, subst, ◌∙◌}
-use native.Mathlib.Omega.{arith}
+use mathlib.Core.Path.{◌≡◌}
 use lib.ListN.{length}
-use Rattle.plan.specs.declared.Table.TheVariants.{Pieces}
-use Rattle.plan.specs.Image.{rows}
 use Rattle.jobs.specs.Times.{Gathered}
 use Rattle.jobs.proofs.take_all.Given as goal
 

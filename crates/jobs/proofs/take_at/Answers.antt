@@ -2,7 +2,6 @@ use mathlib.Core.Path.{refl}
 use native.Mathlib.Omega.{arith}
 use lib.ListN.{length-set}
 use Rattle.jobs.specs.Times.{taken_at}
-use borrow.Author.Rules.{rules}
 use Rattle.jobs.proofs.take_at.Goals as goal
 
 -- src/lib.rt:84:5

@@ -7,8 +7,7 @@ use Rattle.plan.specs.declared.Table.TheVariants.{Tasks}
 use Rattle.plan.specs.Image.{shape, most_pieces}
 use Rattle.plan.proofs.Passing.{piece_ends}
 use Rattle.jobs.specs.Times.{piece_place}
-use Rattle.jobs.proofs.Gathering.{task_exists, task_word, at_is, at_fits, switch_less, work_is, work_fits, taken_in, passed_over}
-use borrow.Author.Rules.{rules}
+use Rattle.jobs.proofs.Gathering.{task_exists, at_is, at_fits, switch_less, work_is, work_fits, taken_in, passed_over}
 use Rattle.jobs.proofs.take_in.Goals as goal
 
 -- src/lib.rt:95:17

@@ -1,8 +1,6 @@
 use mathlib.Core.Path.{refl, sym, ◌∙◌}
 use native.Mathlib.Omega.{arith}
-use borrow.Author.Tests.{not-true, not-false}
 use Rattle.joining.proofs.Joining.{is_accepted, shared_low, gives_first, gives_second, gives_35, gives_36, gives_37, gives_image, written_within}
-use borrow.Author.Rules.{rules}
 use Rattle.joining.proofs.join.Goals as goal
 
 -- src/lib.rt:43:9

@@ -1,14 +1,7 @@
-use Prim.Native.Nat.{ℕ, ◌-◌}
-use mathlib.Core.Path.{◌≡◌, sym, ap, ◌∙◌}
-use native.Mathlib.Omega.{arith}
-use Rattle.plan.specs.Image.{cycle_ticks}
-use Rattle.plan.specs.Dispatch.{begins, entry_count}
-use Rattle.plan.proofs.Searching.{count_most}
-use Rattle.plan.proofs.Tests.{no_count}
+use Prim.Native.Nat.{◌-◌}
+use mathlib.Core.Path.{◌≡◌}
+use Rattle.plan.specs.Dispatch.{begins}
 use Rattle.lanes.specs.Walks.{Reached}
-use Rattle.lanes.proofs.Accepted.{cycle_small}
-use Rattle.plan.proofs.Sounds.{accepted_sound}
-use Rattle.lanes.proofs.Walking.{count_yes, count_no}
 use Rattle.lanes.proofs.count_entries.Given as goal
 
 abbrev pub invariant-loop-walk : goal.invariant-loop-walk

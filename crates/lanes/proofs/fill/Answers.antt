@@ -3,7 +3,6 @@ use native.Mathlib.Omega.{arith}
 use lib.ListN.{length-set}
 use Rattle.plan.proofs.Sounds.{accepted_sound}
 use Rattle.lanes.proofs.Building.{build_short, filled}
-use borrow.Author.Rules.{rules}
 use Rattle.lanes.proofs.fill.Goals as goal
 
 pub returns-then-words-count : goal.returns-then-words-count

@@ -1,5 +1,4 @@
 use Rattle.plan.proofs.Sounds.{accepted_sound}
-use borrow.Author.Rules.{rules}
 use Rattle.lanes.proofs.gather.Goals as goal
 
 -- src/lib.rt:39:5

@@ -4,7 +4,6 @@ use mathlib.Core.List.{◌∷◌, []}
 use native.Mathlib.Omega.{arith}
 use lib.ListN.{length-set}
 use Rattle.lanes.proofs.Writing.{put_sets}
-use borrow.Author.Rules.{rules}
 use Rattle.lanes.proofs.put.Goals as goal
 
 pub bounds-words-at-2 : goal.bounds-words-at-2

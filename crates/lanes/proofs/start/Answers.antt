@@ -1,6 +1,5 @@
 use Rattle.lanes.proofs.Walking.{started}
 use mathlib.Core.Path.{refl}
-use borrow.Author.Rules.{rules}
 use Rattle.lanes.proofs.start.Goals as goal
 
 -- src/lib.rt:347:1

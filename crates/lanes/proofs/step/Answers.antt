@@ -1,5 +1,4 @@
 use Rattle.lanes.proofs.Walking.{steps}
-use borrow.Author.Rules.{rules}
 use Rattle.lanes.proofs.step.Goals as goal
 
 -- src/lib.rt:365:1

@@ -1,12 +1,11 @@
-use Prim.Native.Nat.{ℕ, ◌-◌}
+use Prim.Native.Nat.{ℕ}
 use mathlib.Core.Path.{◌≡◌, ap, ◌∙◌}
 use native.Mathlib.Omega.{arith}
 use Rattle.plan.specs.Image.{cycle_ticks}
 use Rattle.plan.specs.Dispatch.{entries}
-use Rattle.lanes.specs.Walks.{Reached}
 use Rattle.lanes.specs.Words.{put_at}
 use Rattle.plan.proofs.Sounds.{accepted_sound}
-use Rattle.lanes.proofs.Writing.{Written, written_none, written_entry, written_same, written_length, room}
+use Rattle.lanes.proofs.Writing.{written_none, written_entry, written_same, written_length, room}
 use Rattle.lanes.proofs.write_entries.Goals as goal
 
 pub cycle_ticks-end-requires : goal.cycle_ticks-end-requires

@@ -1,12 +1,6 @@
-use Prim.Native.Nat.{ℕ, ◌-◌}
-use mathlib.Core.Path.{◌≡◌, ap, ◌∙◌}
-use native.Mathlib.Omega.{arith}
-use Rattle.plan.specs.Image.{cycle_ticks}
-use Rattle.plan.specs.Dispatch.{entries}
+use Prim.Native.Nat.{◌-◌}
 use Rattle.lanes.specs.Walks.{Reached}
-use Rattle.lanes.specs.Words.{put_at}
-use Rattle.plan.proofs.Sounds.{accepted_sound}
-use Rattle.lanes.proofs.Writing.{Written, written_none, written_entry, written_same, written_length, room}
+use Rattle.lanes.proofs.Writing.{Written}
 use Rattle.lanes.proofs.write_entries.Given as goal
 
 abbrev pub invariant-loop-walk : goal.invariant-loop-walk

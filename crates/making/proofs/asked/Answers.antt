@@ -2,7 +2,6 @@ use mathlib.Core.Path.{sym, ap, ◌∙◌}
 use Rattle.plan.specs.declared.Answer.{Answer}
 use Rattle.rows.proofs.Joining.{image_held, all_held}
 use Rattle.making.proofs.Made.{stop_image, stop_rows, to_fitting}
-use borrow.Author.Rules.{rules}
 use Rattle.making.proofs.asked.Goals as goal
 
 pub returns-then-whole-ne0 : goal.returns-then-whole-ne0

@@ -1,7 +1,6 @@
 use mathlib.Core.Path.{sym, ap, ◌∙◌}
 use Rattle.drafts.specs.Edits.{summed}
 use Rattle.making.proofs.Made.{make_early, make_34, make_0, sound_here, ready_here, room_here, short_here}
-use borrow.Author.Rules.{rules}
 use Rattle.making.proofs.make.Goals as goal
 
 pub returns-then-number-ne0 : goal.returns-then-number-ne0

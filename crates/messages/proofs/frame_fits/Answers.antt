@@ -3,7 +3,6 @@ use native.Mathlib.Omega.{arith}
 use Rattle.plan.specs.Questions.{frame_fits}
 use Rattle.plan.specs.declared.Table.TheVariants.{Streams, Frames}
 use Rattle.messages.proofs.Framing.{product_below}
-use borrow.Author.Rules.{rules}
 use Rattle.messages.proofs.frame_fits.Goals as goal
 
 pub stream_at-m-requires : goal.stream_at-m-requires

@@ -5,7 +5,6 @@ use Rattle.plan.specs.declared.Frame.{Frame}
 use Rattle.plan.specs.Questions.{hop_waits}
 use Rattle.messages.proofs.Framing.{job_of, hop_of}
 use Rattle.frames.proofs.Reading.{frame_exists}
-use borrow.Author.Rules.{rules}
 use Rattle.messages.proofs.hop_waits.Goals as goal
 
 pub returns-then-f-eq0 : goal.returns-then-f-eq0

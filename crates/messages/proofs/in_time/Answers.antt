@@ -2,7 +2,6 @@ use mathlib.Core.Path.{refl}
 use Rattle.plan.specs.declared.Table.TheVariants.{Streams}
 use Rattle.plan.specs.Questions.{in_time}
 use Rattle.messages.proofs.Framing.{receiver_job}
-use borrow.Author.Rules.{rules}
 use Rattle.messages.proofs.in_time.Goals as goal
 
 pub last_end-requires : goal.last_end-requires

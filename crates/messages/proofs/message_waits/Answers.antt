@@ -6,7 +6,6 @@ use Rattle.plan.specs.Image.{stream}
 use Rattle.plan.specs.Questions.{message_waits}
 use Rattle.messages.proofs.Framing.{receiver_job}
 use Rattle.frames.proofs.Reading.{frame_exists}
-use borrow.Author.Rules.{rules}
 use Rattle.messages.proofs.message_waits.Goals as goal
 
 pub frame_of-first-requires : goal.frame_of-first-requires

@@ -6,7 +6,6 @@ use Rattle.plan.specs.declared.Table.TheVariants.{Streams}
 use Rattle.plan.specs.Questions.{stay_from}
 use Rattle.messages.proofs.Framing.{job_of, hop_of}
 use Rattle.frames.proofs.Reading.{frame_exists}
-use borrow.Author.Rules.{rules}
 use Rattle.messages.proofs.stay_from.Goals as goal
 
 -- src/lib.rt:121:22

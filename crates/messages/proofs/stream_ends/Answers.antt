@@ -1,7 +1,6 @@
 use mathlib.Core.Path.{refl}
 use Rattle.plan.specs.Questions.{stream_ends}
 use Rattle.plan.specs.declared.Table.TheVariants.{Streams}
-use borrow.Author.Rules.{rules}
 use Rattle.messages.proofs.stream_ends.Goals as goal
 
 pub task_at-requires : goal.task_at-requires

@@ -1,15 +1,11 @@
-use Prim.Native.Nat.{ℕ, ◌+◌, ◌-◌, ◌*◌}
-use mathlib.Core.List.{◌∷◌, []}
-use mathlib.Core.Path.{ap, subst, ◌∙◌}
+use Prim.Native.Nat.{ℕ}
+use mathlib.Core.Path.{subst}
 use native.Mathlib.Omega.{arith}
-use lib.ListN.{length, length-set}
-use lib.Seq.{length-sets}
 use Rattle.plan.specs.declared.Table.TheVariants.{Frames}
 use Rattle.plan.specs.Image.{rows}
 use Rattle.plan.proofs.Sounds.{accepted_sound}
 use Rattle.opening.specs.Listings.{GoneOn}
 use Rattle.opening.proofs.Sending.{room, last_count, last_room, count_all, list_all}
-use borrow.Author.Rules.{rules}
 use Rattle.opening.proofs.find.Goals as goal
 
 -- src/lib.rt:149:9

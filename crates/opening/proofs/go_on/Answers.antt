@@ -1,5 +1,4 @@
 use Rattle.opening.proofs.Going.{gone_first, gone_same, gone_other}
-use borrow.Author.Rules.{rules}
 use Rattle.opening.proofs.go_on.Goals as goal
 
 -- src/lib.rt:57:9

@@ -5,7 +5,6 @@ use Rattle.plan.specs.declared.Frame.{Frame}
 use Rattle.plan.proofs.Sounds.{accepted_sound}
 use Rattle.opening.specs.Listings.{GoneOn}
 use Rattle.opening.proofs.Sending.{starts_later, ends_within, room_idle, ends_later, sent}
-use borrow.Author.Rules.{rules}
 use Rattle.opening.proofs.send.Goals as goal
 
 -- src/lib.rt:103:34

@@ -1,11 +1,8 @@
-use Prim.Native.Nat.{ℕ, ◌-◌, ◌≤◌}
-use mathlib.Core.Path.{◌≡◌, subst}
-use native.Mathlib.Omega.{arith}
+use Prim.Native.Nat.{◌-◌, ◌≤◌}
+use mathlib.Core.Path.{◌≡◌}
 use Rattle.plan.specs.declared.Table.TheVariants.{Frames}
 use Rattle.plan.specs.Image.{rows}
-use Rattle.plan.proofs.Sounds.{accepted_sound}
 use Rattle.opening.specs.Listings.{Walked}
-use Rattle.opening.proofs.Sending.{walked_none}
 use Rattle.opening.proofs.send_all.Given as goal
 
 abbrev pub invariant-loop-frame : goal.invariant-loop-frame

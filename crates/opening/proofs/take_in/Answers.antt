@@ -3,7 +3,6 @@ use mathlib.Core.Path.{refl, sym, ap, ◌∙◌}
 use Rattle.plan.specs.declared.Frame.{Frame}
 use Rattle.plan.proofs.Sounds.{accepted_sound}
 use Rattle.opening.proofs.Sending.{past_here, room, spare, walked_send, walked_skip}
-use borrow.Author.Rules.{rules}
 use Rattle.opening.proofs.take_in.Goals as goal
 
 -- src/lib.rt:118:8

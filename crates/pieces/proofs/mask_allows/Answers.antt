@@ -4,7 +4,6 @@ use Rattle.plan.specs.declared.Table.TheVariants.{Cores}
 use Rattle.plan.specs.Image.{shape}
 use Rattle.plan.specs.Questions.{mask_allows}
 use Rattle.terms.proofs.Naming.{core_below}
-use borrow.Author.Rules.{rules}
 use Rattle.pieces.proofs.mask_allows.Goals as goal
 
 -- src/lib.rt:64:6

@@ -1,7 +1,6 @@
 use mathlib.Core.Path.{refl}
 use Rattle.plan.specs.declared.Table.TheVariants.{Pieces}
 use Rattle.plan.specs.Questions.{piece_fits}
-use borrow.Author.Rules.{rules}
 use Rattle.pieces.proofs.piece_fits.Goals as goal
 
 -- src/lib.rt:75:26

@@ -1,6 +1,5 @@
 use mathlib.Core.Path.{refl}
 use Rattle.plan.specs.Questions.{window_fits}
-use borrow.Author.Rules.{rules}
 use Rattle.pieces.proofs.window_fits.Goals as goal
 
 -- src/lib.rt:55:1

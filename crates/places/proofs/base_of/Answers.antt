@@ -1,6 +1,5 @@
 use mathlib.Core.Path.{sym, ap}
 use Rattle.places.specs.Index.{base_of}
-use borrow.Author.Rules.{rules}
 use Rattle.places.proofs.base_of.Goals as goal
 
 -- src/lib.rt:52:1

@@ -1,9 +1,5 @@
 use Prim.Native.Nat.{◌-◌, ◌≤◌}
-use mathlib.Core.Path.{◌≡◌, refl, subst, sym, ◌∙◌}
-use native.Mathlib.Omega.{arith}
-use native.Mathlib.Numerals.{add-one}
 use Rattle.places.specs.Index.{Cleared, Untouched, most_places}
-use Rattle.places.proofs.Linking.{cleared_none, cleared_more, kept_over}
 use Rattle.places.proofs.clear.Given as goal
 
 abbrev pub invariant-loop-place : goal.invariant-loop-place

@@ -1,6 +1,5 @@
 use native.Mathlib.Omega.{arith}
 use Rattle.places.proofs.Linking.{base_small}
-use borrow.Author.Rules.{rules}
 use Rattle.places.proofs.first_at.Goals as goal
 
 -- src/lib.rt:124:11

@@ -6,7 +6,6 @@ use Rattle.plan.specs.declared.Piece.{Piece}
 use Rattle.plan.specs.declared.Window.{Window}
 use Rattle.plan.specs.Image.{rows}
 use Rattle.places.specs.Places.{table_for, from_of}
-use borrow.Author.Rules.{rules}
 use Rattle.places.proofs.from_of.Goals as goal
 
 pub piece_at-requires : goal.piece_at-requires

@@ -1,5 +1,4 @@
 use Rattle.places.proofs.Linking.{indexed}
-use borrow.Author.Rules.{rules}
 use Rattle.places.proofs.gather.Goals as goal
 
 -- src/lib.rt:110:1

@@ -1,7 +1,6 @@
 use Rattle.places.proofs.Linking.{base_small, linked_none, kept_both}
 use Rattle.plan.specs.Image.{rows}
 use mathlib.Core.Path.{ap, ◌∙◌}
-use borrow.Author.Rules.{rules}
 use Rattle.places.proofs.gather_part.Goals as goal
 
 -- src/lib.rt:105:5

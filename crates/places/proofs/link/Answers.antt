@@ -2,7 +2,6 @@ use mathlib.Core.Path.{refl}
 use native.Mathlib.Omega.{arith}
 use lib.ListN.{length-set}
 use Rattle.places.specs.Index.{linked_at}
-use borrow.Author.Rules.{rules}
 use Rattle.places.proofs.link.Goals as goal
 
 -- src/lib.rt:81:5

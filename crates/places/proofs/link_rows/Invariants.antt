@@ -1,10 +1,7 @@
-use Prim.Native.Nat.{suc, ◌<◌, ◌-◌, ◌≤◌}
-use mathlib.Core.Path.{◌≡◌, refl, subst, sym, ap, ◌∙◌}
-use native.Mathlib.Omega.{arith}
+use Prim.Native.Nat.{◌≤◌}
 use Rattle.plan.specs.Image.{rows}
 use Rattle.places.specs.Places.{table_for}
 use Rattle.places.specs.Index.{base_of, Linked, Untouched}
-use Rattle.places.proofs.Linking.{place_small, row_small, linked_more, untouched_more}
 use Rattle.places.proofs.link_rows.Given as goal
 
 abbrev pub invariant-loop-row : goal.invariant-loop-row

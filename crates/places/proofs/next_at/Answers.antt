@@ -1,6 +1,5 @@
 use native.Mathlib.Omega.{arith}
 use Rattle.places.proofs.Linking.{row_small}
-use borrow.Author.Rules.{rules}
 use Rattle.places.proofs.next_at.Goals as goal
 
 -- src/lib.rt:132:11

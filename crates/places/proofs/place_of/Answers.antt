@@ -4,7 +4,6 @@ use Rattle.places.specs.declared.Occupant.{Occupant}
 use Rattle.plan.specs.declared.Frame.{Frame}
 use Rattle.plan.specs.Image.{rows}
 use Rattle.places.specs.Places.{table_for, place_of}
-use borrow.Author.Rules.{rules}
 use Rattle.places.proofs.place_of.Goals as goal
 
 pub piece_core-requires : goal.piece_core-requires

@@ -1,6 +1,5 @@
 use mathlib.Core.Path.{sym, ap}
 use Rattle.places.specs.Places.{table_for}
-use borrow.Author.Rules.{rules}
 use Rattle.places.proofs.table_for.Goals as goal
 
 pub returns-in-Piece : goal.returns-in-Piece

@@ -3,7 +3,6 @@ use mathlib.Core.Path.{sym, ap, subst, ◌∙◌}
 use Rattle.places.specs.declared.Occupant.{Occupant}
 use Rattle.plan.specs.Image.{rows}
 use Rattle.places.specs.Places.{table_for, to_of}
-use borrow.Author.Rules.{rules}
 use Rattle.places.proofs.to_of.Goals as goal
 
 pub piece_end-requires : goal.piece_end-requires

@@ -5,7 +5,6 @@ use native.Mathlib.Omega.{arith}
 use lib.ListN.{length, length-take, length-replicate}
 use Rattle.texts.specs.Printed.{Printed}
 use Rattle.sizes.proofs.Texts.{text_fits}
-use borrow.Author.Rules.{rules}
 use Rattle.plancheck.proofs.main.Goals as goal
 
 -- no text is longer than the bytes lent, where these are as many as the longest text has

@@ -2,7 +2,6 @@ use mathlib.Core.Path.{sym, ap, ◌∙◌}
 use Rattle.plan.specs.declared.Answer.{Answer}
 use Rattle.plan.proofs.Numbers.{accepted_of}
 use Rattle.printing.proofs.Written.{answered, printed_refused, printed_accepted}
-use borrow.Author.Rules.{rules}
 use Rattle.printing.proofs.print.Goals as goal
 
 pub returns-then-answer-ne0 : goal.returns-then-answer-ne0

@@ -1,10 +1,10 @@
-use Prim.Native.Nat.{suc, ◌+◌, ◌-◌, ◌≤◌, ◌<◌}
+use Prim.Native.Nat.{suc, ◌+◌, ◌<◌}
 use mathlib.Core.Path.{◌≡◌, ap}
 use native.Mathlib.Omega.{arith}
 use Rattle.plan.specs.Dispatch.{lanes}
 use Rattle.writing.proofs.AllTables.{lanes_small}
 use Rattle.texts.specs.Printed.{lines_below}
-use Rattle.printing.proofs.Written.{Below, below_none, below_next}
+use Rattle.printing.proofs.Written.{below_none, below_next}
 use Rattle.lines.proofs.Storing.{put_as, put_length}
 use Rattle.printing.proofs.put_lanes.Goals as goal
 

@@ -1,7 +1,6 @@
 use mathlib.Core.Path.{sym, ap, ◌∙◌}
 use Rattle.plan.specs.declared.Answer.{Answer}
 use Rattle.questions.proofs.Joining.{stop_streams, stop_buffers, to_chains, before_chains}
-use borrow.Author.Rules.{rules}
 use Rattle.questions.proofs.ask_messages.Goals as goal
 
 -- src/lib.rt:17:9

@@ -1,7 +1,6 @@
 use mathlib.Core.Path.{sym, ap, ◌∙◌}
 use Rattle.plan.specs.declared.Answer.{Answer}
 use Rattle.questions.proofs.Joining.{stop_pieces, pieces_passed, to_messages}
-use borrow.Author.Rules.{rules}
 use Rattle.questions.proofs.ask_plan.Goals as goal
 
 -- src/lib.rt:34:9

@@ -2,7 +2,6 @@ use mathlib.Core.Path.{sym, ap, ◌∙◌}
 use Rattle.plan.specs.declared.Answer.{Answer}
 use Rattle.rows.proofs.Joining.{image_held, all_held}
 use Rattle.questions.proofs.Joining.{stop_image, stop_rows, stop_queues, to_plan, queues_held}
-use borrow.Author.Rules.{rules}
 use Rattle.questions.proofs.check.Goals as goal
 
 pub returns-then-whole-ne0 : goal.returns-then-whole-ne0

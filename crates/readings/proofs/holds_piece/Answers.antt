@@ -1,9 +1,7 @@
 use mathlib.Core.Path.{sym, ◌∙◌}
 use native.Mathlib.Omega.{arith}
-use borrow.Author.Tests.{not-true, not-false}
 use Rattle.drafts.specs.Drafts.{places}
 use Rattle.readings.proofs.Readings.{headed_of, holds_none, holds_far, holds_here}
-use borrow.Author.Rules.{rules}
 use Rattle.readings.proofs.holds_piece.Goals as goal
 
 pub returns-then-not-is_draft : goal.returns-then-not-is_draft

@@ -1,6 +1,5 @@
 use mathlib.Core.Path.{refl}
 use Rattle.drafts.specs.Drafts.{is_of}
-use borrow.Author.Rules.{rules}
 use Rattle.readings.proofs.is_of.Goals as goal
 
 pub returns : goal.returns

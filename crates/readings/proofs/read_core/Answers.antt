@@ -1,9 +1,7 @@
 use mathlib.Core.Path.{sym, ◌∙◌}
 use native.Mathlib.Omega.{arith}
-use borrow.Author.Tests.{not-true, not-false}
 use Rattle.draftwords.proofs.Headed.{head_parts}
 use Rattle.readings.proofs.Readings.{headed_of, core_33, core_5, core_0}
-use borrow.Author.Rules.{rules}
 use Rattle.readings.proofs.read_core.Goals as goal
 
 pub returns-then-not-is_draft : goal.returns-then-not-is_draft

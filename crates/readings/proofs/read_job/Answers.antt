@@ -1,9 +1,7 @@
 use mathlib.Core.Path.{sym, ◌∙◌}
 use native.Mathlib.Omega.{arith}
-use borrow.Author.Tests.{not-true, not-false}
 use Rattle.draftwords.proofs.Headed.{head_parts, task_parts}
 use Rattle.readings.proofs.Readings.{headed_of, jobs_is, job_33, job_5, job_10, job_0}
-use borrow.Author.Rules.{rules}
 use Rattle.readings.proofs.read_job.Goals as goal
 
 pub returns-then-not-is_draft : goal.returns-then-not-is_draft

@@ -1,11 +1,9 @@
 use mathlib.Core.Path.{sym, ap, ◌∙◌}
 use native.Mathlib.Omega.{arith}
 use lib.Seq.{sets}
-use borrow.Author.Tests.{not-true, not-false}
 use Rattle.plan.specs.declared.Piece.{Piece}
 use Rattle.drafts.specs.Edits.{piece_words}
 use Rattle.readings.proofs.Readings.{place_33, place_34, place_0, held_place}
-use borrow.Author.Rules.{rules}
 use Rattle.readings.proofs.read_place.Goals as goal
 
 pub returns-then-not-holds_piece : goal.returns-then-not-holds_piece

@@ -1,13 +1,9 @@
-use Prim.Native.Nat.{ℕ, ◌-◌, ◌≤◌}
-use mathlib.Core.Path.{◌≡◌, refl, sym, ap, subst, ◌∙◌}
+use Prim.Native.Nat.{◌-◌, ◌≤◌}
+use mathlib.Core.Path.{◌≡◌}
 use mathlib.Core.Bool.{not, ◌&&◌}
-use native.Mathlib.Numerals.{add-one}
-use native.Mathlib.Omega.{arith}
 use Rattle.plan.specs.declared.Found.TheVariants.{Nothing}
-use Rattle.plan.specs.Search.{first, first_no}
-use Rattle.plan.proofs.Searching.{turn_yes, stops}
-use Rattle.drafts.specs.Drafts.{places, is_free, is_of, piece_at}
-use Rattle.drafts.proofs.Stored.{stored_at, stored_none}
+use Rattle.plan.specs.Search.{first_no}
+use Rattle.drafts.specs.Drafts.{is_free, is_of, piece_at}
 use Rattle.readings.proofs.stored_total.Given as goal
 
 abbrev pub invariant-loop-place : goal.invariant-loop-place

@@ -2,7 +2,6 @@ use mathlib.Core.Path.{refl}
 use Rattle.plan.specs.Dispatch.{table_entries}
 use Rattle.records.specs.Entries.{has_entry}
 use Rattle.words.proofs.Words.{words_length}
-use borrow.Author.Rules.{rules}
 use Rattle.records.proofs.has_entry.Goals as goal
 
 pub returns : goal.returns

@@ -5,7 +5,6 @@ use Rattle.plan.specs.Boundary.{words_of}
 use Rattle.moves.proofs.Reading.{looked_up, entry_at}
 use Rattle.words.proofs.Words.{words_length, words_at}
 use Rattle.records.proofs.Entries.{entry_inside, entry_bytes}
-use borrow.Author.Rules.{rules}
 use Rattle.records.proofs.look_up.Goals as goal
 
 pub word-ticks-requires : goal.word-ticks-requires

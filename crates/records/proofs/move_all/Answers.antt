@@ -2,7 +2,7 @@ use Prim.Native.Nat.{◌+◌, ◌-◌, ◌<◌}
 use mathlib.Core.Path.{◌≡◌}
 use native.Mathlib.Omega.{arith}
 use lib.ListN.{length}
-use Rattle.records.proofs.Records.{Moved, moved_none, here_fits, moved_part, moved_all}
+use Rattle.records.proofs.Records.{moved_none, here_fits, moved_part, moved_all}
 use Rattle.records.proofs.move_all.Goals as goal
 
 pub loop-i-init : goal.loop-i-init

@@ -3,7 +3,6 @@ use Rattle.plan.specs.Dispatch.{step}
 use Rattle.plan.specs.Boundary.{words_of, state_bytes}
 use Rattle.plan.specs.declared.LaneState.{LaneState}
 use Rattle.records.proofs.Records.{whole_number, moved_bytes}
-use borrow.Author.Rules.{rules}
 use Rattle.records.proofs.move_record.Goals as goal
 
 pub moved-next-requires : goal.moved-next-requires

@@ -3,7 +3,6 @@ use mathlib.Core.Path.{◌≡◌}
 use native.Mathlib.Omega.{arith}
 use lib.ListN.{take, drop, length-take, length-drop}
 use Rattle.records.proofs.Records.{other_length}
-use borrow.Author.Rules.{rules}
 use Rattle.records.proofs.number_at.Goals as goal
 
 pub returns-then-states-i-lt-STATE : goal.returns-then-states-i-lt-STATE

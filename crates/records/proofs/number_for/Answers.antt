@@ -1,8 +1,6 @@
 use mathlib.Core.Path.{sym, ◌∙◌}
-use borrow.Author.Tests.{not-true, not-false}
 use Rattle.plan.specs.Boundary.{words_of}
 use Rattle.records.proofs.Entries.{no_entry, decided_27, decided_28, decided_0, number_said}
-use borrow.Author.Rules.{rules}
 use Rattle.records.proofs.number_for.Goals as goal
 
 pub returns-then-not-has_entry : goal.returns-then-not-has_entry

@@ -3,7 +3,6 @@ use Rattle.plan.specs.Dispatch.{step}
 use Rattle.plan.specs.Boundary.{words_of}
 use Rattle.plan.specs.declared.LaneState.{LaneState}
 use Rattle.records.proofs.Records.{whole_number}
-use borrow.Author.Rules.{rules}
 use Rattle.records.proofs.number_of.Goals as goal
 
 pub returns : goal.returns

@@ -1,8 +1,5 @@
-use Prim.Native.Nat.{◌-◌, ◌≤◌}
-use mathlib.Core.Path.{◌≡◌, refl, sym, ◌∙◌}
+use mathlib.Core.Path.{refl, sym, ◌∙◌}
 use native.Mathlib.Omega.{arith}
-use lib.ListN.{length, drop}
-use Rattle.plan.specs.Boundary.{step_all_number}
 use Rattle.records.proofs.Records.{refused_at, fits_at, all_fit}
 use Rattle.records.proofs.refused_number.Goals as goal
 

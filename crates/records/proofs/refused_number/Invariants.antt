@@ -1,9 +1,7 @@
 use Prim.Native.Nat.{◌-◌, ◌≤◌}
-use mathlib.Core.Path.{◌≡◌, refl, sym, ◌∙◌}
-use native.Mathlib.Omega.{arith}
+use mathlib.Core.Path.{◌≡◌}
 use lib.ListN.{length, drop}
 use Rattle.plan.specs.Boundary.{step_all_number}
-use Rattle.records.proofs.Records.{refused_at, fits_at, all_fit}
 use Rattle.records.proofs.refused_number.Given as goal
 
 abbrev pub invariant-loop-i : goal.invariant-loop-i

@@ -1,6 +1,5 @@
 use mathlib.Core.Path.{◌∙◌}
 use Rattle.records.proofs.Records.{refused_all}
-use borrow.Author.Rules.{rules}
 use Rattle.records.proofs.step_all.Goals as goal
 
 pub returns-then-lowest-ne0 : goal.returns-then-lowest-ne0

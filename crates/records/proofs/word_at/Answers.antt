@@ -3,7 +3,6 @@ use native.Mathlib.Omega.{arith}
 use lib.ListN.{get_or-eq_default}
 use Rattle.plan.specs.Boundary.{words_of}
 use Rattle.words.proofs.Words.{words_length, words_at}
-use borrow.Author.Rules.{rules}
 use Rattle.records.proofs.word_at.Goals as goal
 
 pub returns-then-i-words : goal.returns-then-i-words

@@ -1,7 +1,6 @@
 use mathlib.Core.Path.{sym, ap, ◌∙◌}
 use Rattle.plan.specs.declared.Answer.{Answer}
 use Rattle.rows.proofs.Joining.{five, thirty_two, six, stop_names, stop_order, to_ranges}
-use borrow.Author.Rules.{rules}
 use Rattle.rows.proofs.ask.Goals as goal
 
 pub returns-then-names-ne0 : goal.returns-then-names-ne0

@@ -3,7 +3,6 @@ use mathlib.Core.List.{[]}
 use Rattle.plan.specs.declared.Table.TheVariants.{Streams}
 use Rattle.plan.specs.Questions.{queue_fits, each, queue_questions, answer_to}
 use Rattle.plan.proofs.Answers.{named, no_row, a_row}
-use borrow.Author.Rules.{rules}
 use Rattle.rows.proofs.ask_queues.Goals as goal
 
 -- src/lib.rt:106:1

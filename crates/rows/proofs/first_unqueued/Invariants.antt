@@ -1,14 +1,8 @@
-use Prim.Native.Nat.{ℕ, ◌-◌, ◌≤◌}
-use mathlib.Core.Path.{◌≡◌, refl, sym, subst, ◌∙◌}
-use native.Mathlib.Omega.{arith}
-use native.Mathlib.Numerals.{add-one}
-use borrow.Author.Tests.{not-true, not-false}
+use Prim.Native.Nat.{◌-◌, ◌≤◌}
+use mathlib.Core.Path.{◌≡◌}
 use Rattle.plan.specs.declared.Found.TheVariants.{Nothing}
-use Rattle.plan.specs.declared.Table.TheVariants.{Streams}
-use Rattle.plan.specs.Image.{rows}
 use Rattle.plan.specs.Search.{first_no}
 use Rattle.plan.specs.Questions.{queue_fits}
-use Rattle.plan.proofs.Searching.{turn_yes, stops}
 use Rattle.rows.proofs.first_unqueued.Given as goal
 
 abbrev pub invariant-loop-stream : goal.invariant-loop-stream

@@ -1,6 +1,5 @@
 use borrow.Author.Tests.{ne_eqb}
 use Rattle.rows.specs.Tests.{row_test}
-use borrow.Author.Rules.{rules}
 use Rattle.rows.proofs.passes.Goals as goal
 
 -- src/lib.rt:20:1

@@ -1,5 +1,4 @@
 use Rattle.states.proofs.Bytes.{state_stored}
-use borrow.Author.Rules.{rules}
 use Rattle.states.proofs.put_state.Goals as goal
 
 pub returns : goal.returns

@@ -1,6 +1,5 @@
 use mathlib.Core.Path.{refl}
 use Rattle.plan.specs.Boundary.{state_of}
-use borrow.Author.Rules.{rules}
 use Rattle.states.proofs.state_of.Goals as goal
 
 pub returns : goal.returns

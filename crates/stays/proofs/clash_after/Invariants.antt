@@ -1,6 +1,5 @@
-use Prim.Native.Nat.{ℕ, ◌-◌, ◌≤◌, ◌<◌}
-use mathlib.Core.Path.{◌≡◌, refl, sym, subst, ◌∙◌}
-use native.Mathlib.Omega.{arith}
+use Prim.Native.Nat.{◌-◌, ◌≤◌}
+use mathlib.Core.Path.{◌≡◌}
 use lib.ListN.{length}
 use Rattle.plan.specs.declared.Found.TheVariants.{Nothing}
 use Rattle.plan.specs.declared.Table.TheVariants.{Frames}
@@ -9,8 +8,6 @@ use Rattle.plan.specs.Search.{first_no}
 use Rattle.plan.specs.Questions.{frame_end, stay_clear}
 use Rattle.tallies.specs.Tallies.{latest, Kept}
 use Rattle.stays.specs.Queues.{most_queues, queue_place}
-use Rattle.stays.proofs.Staying.{none_before, place_inside, clash, clear_on, ends_on}
-use borrow.Author.Rules.{rules}
 use Rattle.stays.proofs.clash_after.Given as goal
 
 abbrev pub invariant-loop-frame : goal.invariant-loop-frame

@@ -2,7 +2,6 @@ use mathlib.Core.Path.{refl}
 use Rattle.plan.specs.Search.{first_no}
 use Rattle.tallies.proofs.Tallying.{kept_fresh}
 use Rattle.stays.specs.Queues.{most_queues}
-use borrow.Author.Rules.{rules}
 use Rattle.stays.proofs.first_clash.Goals as goal
 
 -- src/lib.rt:60:9

@@ -5,7 +5,6 @@ use Rattle.plan.specs.declared.Table.TheVariants.{Links, Frames}
 use Rattle.plan.specs.Image.{shape}
 use Rattle.plan.specs.Questions.{queue_of}
 use Rattle.stays.specs.Queues.{queue_place}
-use borrow.Author.Rules.{rules}
 use Rattle.stays.proofs.place_of.Goals as goal
 
 -- src/lib.rt:33:5

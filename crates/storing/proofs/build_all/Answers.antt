@@ -4,7 +4,6 @@ use Rattle.plan.proofs.Numbers.{accepted_of}
 use Rattle.plan.specs.declared.Answer.{Answer}
 use native.Mathlib.Omega.{arith}
 use mathlib.Core.Path.{refl, sym, ap, subst, ◌∙◌}
-use borrow.Author.Rules.{rules}
 use Rattle.storing.proofs.build_all.Goals as goal
 
 -- src/lib.rt:185:9

@@ -1,5 +1,4 @@
 use mathlib.Core.Path.{refl}
-use borrow.Author.Rules.{rules}
 use Rattle.streams.proofs.ask.Goals as goal
 
 -- src/lib.rt:264:5

@@ -1,15 +1,8 @@
-use Prim.Native.Nat.{ℕ, ◌≤◌, ◌-◌}
-use mathlib.Core.Path.{◌≡◌, refl, sym, ap, subst, ◌∙◌}
+use Prim.Native.Nat.{◌≤◌, ◌-◌}
+use mathlib.Core.Path.{◌≡◌}
 use mathlib.Core.Bool.{true}
-use native.Mathlib.Omega.{arith}
-use native.Mathlib.Numerals.{add-one}
-use borrow.Author.Tests.{not-true, not-false}
-use Rattle.plan.specs.declared.Stream.{Stream}
-use Rattle.plan.specs.declared.Table.TheVariants.{Streams}
 use Rattle.plan.specs.Image.{stream}
 use Rattle.plan.specs.Search.{all}
-use Rattle.plan.proofs.Searching.{all_turn, all_stops}
-use Rattle.plan.specs.Questions.{each_job}
 use Rattle.streams.specs.Framing.{job_asked}
 use Rattle.streams.proofs.each_job.Given as goal
 

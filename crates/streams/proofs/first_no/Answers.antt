@@ -1,5 +1,5 @@
 use Rattle.streams.proofs.Asked.{framed_at}
-use Prim.Native.Nat.{ℕ, ◌-◌}
+use Prim.Native.Nat.{ℕ}
 use mathlib.Core.Path.{sym, ap, ◌∙◌}
 use native.Mathlib.Omega.{arith}
 use Rattle.plan.specs.Questions.{question_at, each, stream_questions}

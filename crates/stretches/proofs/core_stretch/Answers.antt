@@ -4,7 +4,6 @@ use Rattle.places.specs.Places.{table_for}
 use Rattle.places.specs.declared.Occupant.TheVariants.{Piece, Window}
 use Rattle.plan.proofs.Facts.{facts}
 use mathlib.Core.Path.{subst}
-use borrow.Author.Rules.{rules}
 use Rattle.stretches.proofs.core_stretch.Goals as goal
 
 -- src/lib.rt:182:31

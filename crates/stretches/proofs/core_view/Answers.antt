@@ -1,5 +1,4 @@
 use Rattle.plan.proofs.Sounds.{accepted_sound}
-use borrow.Author.Rules.{rules}
 use Rattle.stretches.proofs.core_view.Goals as goal
 
 -- src/lib.rt:227:9

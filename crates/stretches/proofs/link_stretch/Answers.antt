@@ -3,7 +3,6 @@ use Rattle.cursors.specs.Taken.{Nearest}
 use Rattle.places.specs.Places.{table_for}
 use Rattle.places.specs.declared.Occupant.TheVariants.{Frame}
 use mathlib.Core.Path.{subst}
-use borrow.Author.Rules.{rules}
 use Rattle.stretches.proofs.link_stretch.Goals as goal
 
 -- src/lib.rt:196:31

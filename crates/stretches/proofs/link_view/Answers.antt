@@ -1,5 +1,4 @@
 use Rattle.plan.proofs.Sounds.{accepted_sound}
-use borrow.Author.Rules.{rules}
 use Rattle.stretches.proofs.link_view.Goals as goal
 
 -- src/lib.rt:244:9

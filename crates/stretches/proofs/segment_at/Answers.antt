@@ -1,7 +1,6 @@
 use mathlib.Core.Path.{refl}
 use borrow.Author.Tests.{lt-ltb, le-ltb}
 use Rattle.stretches.specs.Stretches.{segment_of}
-use borrow.Author.Rules.{rules}
 use Rattle.stretches.proofs.segment_at.Goals as goal
 
 pub returns-then-tick-stretch : goal.returns-then-tick-stretch

@@ -5,7 +5,6 @@ use Rattle.plan.specs.declared.Window.{Window}
 use Rattle.plan.proofs.Sounds.{accepted_sound}
 use native.Mathlib.Omega.{arith}
 use mathlib.Core.Path.{refl, ap}
-use borrow.Author.Rules.{rules}
 use Rattle.stretches.proofs.window_stretch.Goals as goal
 
 -- src/lib.rt:144:9

@@ -1,6 +1,5 @@
 use mathlib.Core.Path.{◌∙◌}
 use Rattle.timerblock.proofs.Blocks.{interrupt_yes, interrupt_no}
-use borrow.Author.Rules.{rules}
 use Rattle.timerblock.proofs.interrupt.Goals as goal
 
 pub returns-then-block-eq-BLOCK : goal.returns-then-block-eq-BLOCK

@@ -1,5 +1,4 @@
 use Rattle.timerblock.proofs.Blocks.{timer_stored}
-use borrow.Author.Rules.{rules}
 use Rattle.timerblock.proofs.put_timer.Goals as goal
 
 pub returns : goal.returns

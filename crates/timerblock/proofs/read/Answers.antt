@@ -1,5 +1,4 @@
 use Rattle.timerblock.proofs.Blocks.{register_yes, register_no}
-use borrow.Author.Rules.{rules}
 use Rattle.timerblock.proofs.read.Goals as goal
 
 pub returns-then-block-eq-BLOCK : goal.returns-then-block-eq-BLOCK

@@ -3,7 +3,6 @@ use Rattle.timer.specs.declared.Timer.{Timer}
 use Rattle.timer.specs.Registers.{reading}
 use Rattle.timerblock.specs.Blocks.{timer_bytes}
 use Rattle.timerblock.proofs.Blocks.{number_yes, number_no, reading_yes, reading_no}
-use borrow.Author.Rules.{rules}
 use Rattle.timerblock.proofs.reading.Goals as goal
 
 pub returns-then-block-eq-BLOCK : goal.returns-then-block-eq-BLOCK

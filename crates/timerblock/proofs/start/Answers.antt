@@ -1,7 +1,6 @@
 use mathlib.Core.Path.{ap, ◌∙◌}
 use Rattle.timerblock.specs.Blocks.{timer_bytes}
 use Rattle.timerblock.proofs.Blocks.{number_yes, number_no, started_yes, started_no}
-use borrow.Author.Rules.{rules}
 use Rattle.timerblock.proofs.start.Goals as goal
 
 pub returns-then-block-eq-BLOCK : goal.returns-then-block-eq-BLOCK

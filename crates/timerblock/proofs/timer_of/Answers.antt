@@ -1,5 +1,4 @@
 use Rattle.timerblock.specs.Blocks.{timer_of}
-use borrow.Author.Rules.{rules}
 use Rattle.timerblock.proofs.timer_of.Goals as goal
 
 pub returns : goal.returns

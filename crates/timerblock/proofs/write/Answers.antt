@@ -4,7 +4,6 @@ use Rattle.timer.specs.declared.Timer.{Timer}
 use Rattle.timer.specs.Registers.{written}
 use Rattle.timerblock.specs.Blocks.{timer_bytes}
 use Rattle.timerblock.proofs.Blocks.{writing_yes, writing_no, write_done, write_refused}
-use borrow.Author.Rules.{rules}
 use Rattle.timerblock.proofs.write.Goals as goal
 
 pub returns-then-block-ne-BLOCK : goal.returns-then-block-ne-BLOCK

@@ -4,7 +4,6 @@ use native.Mathlib.Omega.{arith}
 use Rattle.drafts.specs.Drafts.{places}
 use Rattle.totals.proofs.Gathering.{last_small}
 use Rattle.totals.proofs.Climbing.{climb_none, climb_some, count_most, in_2048}
-use borrow.Author.Rules.{rules}
 use Rattle.totals.proofs.climb_at.Goals as goal
 
 pub bounds-gathered-at : goal.bounds-gathered-at

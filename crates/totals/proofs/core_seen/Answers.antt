@@ -2,7 +2,6 @@ use mathlib.Core.Path.{refl}
 use Rattle.tallies.proofs.Tallying.{kept_at}
 use Rattle.drafts.specs.Drafts.{places}
 use Rattle.totals.specs.Gathers.{ticks_of, core_seen}
-use borrow.Author.Rules.{rules}
 use Rattle.totals.proofs.core_seen.Goals as goal
 
 pub returns : goal.returns

@@ -1,14 +1,8 @@
-use Prim.Native.Nat.{ℕ, ◌-◌, ◌≤◌}
-use mathlib.Core.Path.{◌≡◌, refl, sym, subst, ◌∙◌}
+use Prim.Native.Nat.{◌-◌, ◌≤◌}
+use mathlib.Core.Path.{◌≡◌}
 use mathlib.Core.Bool.{true}
-use borrow.Author.Tests.{not-true, not-false}
-use native.Mathlib.Numerals.{add-one}
-use native.Mathlib.Omega.{arith}
 use Rattle.plan.specs.Search.{all}
-use Rattle.plan.proofs.Searching.{all_turn, all_stops}
-use Rattle.drafts.specs.Drafts.{draft_cores}
 use Rattle.totals.specs.Gathers.{core_seen}
-use Rattle.draftwords.proofs.Headed.{head_parts}
 use Rattle.totals.proofs.cores_seen.Given as goal
 
 abbrev pub invariant-loop-core : goal.invariant-loop-core

@@ -1,9 +1,5 @@
-use Prim.Native.Nat.{ℕ, ◌-◌, ◌≤◌}
-use mathlib.Core.Path.{◌≡◌, sym, subst, ◌∙◌}
-use native.Mathlib.Omega.{arith}
-use Rattle.drafts.specs.Drafts.{places}
+use Prim.Native.Nat.{◌-◌, ◌≤◌}
 use Rattle.totals.specs.Gathers.{Gathered}
-use Rattle.totals.proofs.Gathering.{gathered_none}
 use Rattle.totals.proofs.gather.Given as goal
 
 abbrev pub invariant-loop-place : goal.invariant-loop-place

@@ -1,11 +1,9 @@
 use Prim.Native.Nat.{◌≤◌}
 use mathlib.Core.Path.{refl, sym, ◌∙◌}
-use borrow.Author.Tests.{not-true, not-false}
 use lib.ListN.{length}
 use Rattle.tallies.proofs.Tallying.{kept_fresh}
 use Rattle.drafts.specs.Drafts.{draft_words}
 use Rattle.totals.proofs.Passing.{enough, short_words, no_head, no_tasks, headed, no_places, rest_is}
-use borrow.Author.Rules.{rules}
 use Rattle.totals.proofs.is_draft.Goals as goal
 
 pub returns-then-words-lt-WORDS : goal.returns-then-words-lt-WORDS

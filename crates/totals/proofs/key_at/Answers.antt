@@ -1,6 +1,5 @@
 use mathlib.Core.Path.{refl}
 use Rattle.totals.specs.Gathers.{job_key}
-use borrow.Author.Rules.{rules}
 use Rattle.totals.proofs.key_at.Goals as goal
 
 pub returns : goal.returns

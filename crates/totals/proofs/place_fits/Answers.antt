@@ -1,8 +1,7 @@
-use borrow.Author.Tests.{not-true, not-false, ltb-true}
+use borrow.Author.Tests.{ltb-true}
 use mathlib.Core.Path.{refl, sym, ◌∙◌}
 use Rattle.draftwords.specs.Heads.{place_fits}
 use Rattle.drafts.specs.Drafts.{has_task}
-use borrow.Author.Rules.{rules}
 use Rattle.totals.proofs.place_fits.Goals as goal
 
 pub returns-then-is_free : goal.returns-then-is_free

@@ -5,7 +5,6 @@ use borrow.Author.Tests.{le-ltb}
 use Rattle.drafts.specs.Drafts.{places, rank_at}
 use Rattle.totals.specs.Gathers.{place_seen}
 use Rattle.totals.proofs.Gathering.{last_small, seen_is}
-use borrow.Author.Rules.{rules}
 use Rattle.totals.proofs.place_seen.Goals as goal
 
 pub returns-then-is_free : goal.returns-then-is_free

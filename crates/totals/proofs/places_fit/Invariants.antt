@@ -1,12 +1,7 @@
-use Prim.Native.Nat.{ℕ, ◌-◌, ◌≤◌}
-use mathlib.Core.Path.{◌≡◌, refl, sym, subst, ◌∙◌}
+use Prim.Native.Nat.{◌-◌, ◌≤◌}
+use mathlib.Core.Path.{◌≡◌}
 use mathlib.Core.Bool.{true}
-use borrow.Author.Tests.{not-true, not-false}
-use native.Mathlib.Numerals.{add-one}
-use native.Mathlib.Omega.{arith}
 use Rattle.plan.specs.Search.{all}
-use Rattle.plan.proofs.Searching.{all_turn, all_stops}
-use Rattle.drafts.specs.Drafts.{places}
 use Rattle.draftwords.specs.Heads.{place_fits}
 use Rattle.totals.proofs.places_fit.Given as goal
 

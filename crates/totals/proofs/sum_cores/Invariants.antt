@@ -1,9 +1,5 @@
-use Prim.Native.Nat.{ℕ, ◌-◌, ◌≤◌}
-use mathlib.Core.Path.{◌≡◌, sym, subst, ◌∙◌}
-use native.Mathlib.Omega.{arith}
-use Rattle.drafts.specs.Drafts.{places}
+use Prim.Native.Nat.{◌-◌, ◌≤◌}
 use Rattle.totals.specs.Gathers.{CoreSums}
-use Rattle.totals.proofs.Gathering.{summed_none}
 use Rattle.totals.proofs.sum_cores.Given as goal
 
 abbrev pub invariant-loop-place : goal.invariant-loop-place

@@ -7,7 +7,6 @@ use Rattle.drafts.specs.Drafts.{places, task_core, piece_at}
 use Rattle.draftwords.specs.Heads.{place_fits}
 use Rattle.draftwords.proofs.Headed.{head_parts}
 use Rattle.totals.proofs.Gathering.{summed_free, summed_taken, present_task, present_core, may_sum}
-use borrow.Author.Rules.{rules}
 use Rattle.totals.proofs.sum_in.Goals as goal
 
 pub returns-then-is_free : goal.returns-then-is_free

@@ -3,7 +3,6 @@ use native.Mathlib.Omega.{arith}
 use Prim.Native.Nat.{◌+◌}
 use lib.ListN.{get_or, set, length-set}
 use Rattle.totals.specs.Gathers.{taken_at}
-use borrow.Author.Rules.{rules}
 use Rattle.totals.proofs.take_at.Goals as goal
 
 pub bounds-gathered-at-4 : goal.bounds-gathered-at-4

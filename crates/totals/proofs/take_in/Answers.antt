@@ -1,7 +1,6 @@
 use mathlib.Core.Path.{sym, ◌∙◌}
 use native.Mathlib.Omega.{arith}
 use Rattle.totals.proofs.Gathering.{gathered_free, gathered_high, gathered_taken, may_take}
-use borrow.Author.Rules.{rules}
 use Rattle.totals.proofs.take_in.Goals as goal
 
 pub returns-then-is_free : goal.returns-then-is_free

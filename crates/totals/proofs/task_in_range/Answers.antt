@@ -1,7 +1,6 @@
 use mathlib.Core.Path.{sym, ◌∙◌}
 use Rattle.drafts.specs.Drafts.{task_in_range}
 use Rattle.draftwords.proofs.Headed.{no_period}
-use borrow.Author.Rules.{rules}
 use Rattle.totals.proofs.task_in_range.Goals as goal
 
 pub returns-then-period-eq0 : goal.returns-then-period-eq0

@@ -1,13 +1,8 @@
-use Prim.Native.Nat.{ℕ, ◌-◌, ◌≤◌}
-use mathlib.Core.Path.{◌≡◌, refl, sym, subst, ◌∙◌}
+use Prim.Native.Nat.{◌-◌, ◌≤◌}
+use mathlib.Core.Path.{◌≡◌}
 use mathlib.Core.Bool.{true}
-use borrow.Author.Tests.{not-true, not-false}
-use native.Mathlib.Numerals.{add-one}
-use native.Mathlib.Omega.{arith}
 use Rattle.plan.specs.Search.{all}
-use Rattle.plan.proofs.Searching.{all_turn, all_stops}
-use Rattle.drafts.specs.Drafts.{draft_tasks, task_in_range}
-use Rattle.drafts.proofs.Heads.{r_head}
+use Rattle.drafts.specs.Drafts.{task_in_range}
 use Rattle.totals.proofs.tasks_in_range.Given as goal
 
 abbrev pub invariant-loop-task : goal.invariant-loop-task

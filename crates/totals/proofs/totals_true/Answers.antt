@@ -1,5 +1,4 @@
 use Rattle.totals.proofs.Passing.{totals_same}
-use borrow.Author.Rules.{rules}
 use Rattle.totals.proofs.totals_true.Goals as goal
 
 pub returns : goal.returns

@@ -1,9 +1,8 @@
 use Prim.Native.Nat.{◌+◌, ◌-◌}
 use mathlib.Core.Path.{◌≡◌}
 use native.Mathlib.Omega.{arith}
-use lib.ListN.{length}
 use Rattle.plan.specs.Boundary.{words_of}
-use Rattle.turns.proofs.Turning.{Turned, turned_none, here_fits, turned_part, moved_all}
+use Rattle.turns.proofs.Turning.{turned_none, here_fits, turned_part, moved_all}
 use Rattle.turns.proofs.move_all_there.Goals as goal
 
 pub loop-i-init : goal.loop-i-init

@@ -1,9 +1,7 @@
-use Prim.Native.Nat.{◌+◌, ◌-◌}
-use mathlib.Core.Path.{◌≡◌}
-use native.Mathlib.Omega.{arith}
+use Prim.Native.Nat.{◌-◌}
 use lib.ListN.{length}
 use Rattle.plan.specs.Boundary.{words_of}
-use Rattle.turns.proofs.Turning.{Turned, turned_none, here_fits, turned_part, moved_all}
+use Rattle.turns.proofs.Turning.{Turned}
 use Rattle.turns.proofs.move_all_there.Given as goal
 
 abbrev pub invariant-loop-i : goal.invariant-loop-i

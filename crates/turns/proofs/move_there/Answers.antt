@@ -3,7 +3,6 @@ use Rattle.plan.specs.declared.LaneState.{LaneState}
 use Rattle.plan.specs.Dispatch.{step}
 use Rattle.plan.specs.Boundary.{words_of, state_bytes}
 use Rattle.modes.specs.Modes.{at_table}
-use borrow.Author.Rules.{rules}
 use Rattle.turns.proofs.move_there.Goals as goal
 
 pub moved-next-requires : goal.moved-next-requires

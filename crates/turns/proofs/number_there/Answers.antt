@@ -3,7 +3,6 @@ use Rattle.plan.specs.declared.LaneState.{LaneState}
 use Rattle.plan.specs.Dispatch.{step}
 use Rattle.plan.specs.Boundary.{words_of}
 use Rattle.modes.specs.Modes.{at_table}
-use borrow.Author.Rules.{rules}
 use Rattle.turns.proofs.number_there.Goals as goal
 
 pub returns : goal.returns

@@ -1,9 +1,8 @@
-use Prim.Native.Nat.{◌+◌, ◌-◌, ◌%◌, ◌≤◌}
+use Prim.Native.Nat.{◌+◌, ◌-◌}
 use mathlib.Core.Path.{◌≡◌, refl, sym, ◌∙◌}
 use native.Mathlib.Omega.{arith}
-use lib.ListN.{length, drop}
 use Rattle.plan.specs.Boundary.{words_of}
-use Rattle.turns.proofs.Turning.{lowest, refused_at, fits_at, all_fit}
+use Rattle.turns.proofs.Turning.{refused_at, fits_at, all_fit}
 use Rattle.turns.proofs.refused_there.Goals as goal
 
 pub loop-i-init : goal.loop-i-init

@@ -1,9 +1,8 @@
-use Prim.Native.Nat.{◌+◌, ◌-◌, ◌%◌, ◌≤◌}
-use mathlib.Core.Path.{◌≡◌, refl, sym, ◌∙◌}
-use native.Mathlib.Omega.{arith}
+use Prim.Native.Nat.{◌-◌, ◌%◌, ◌≤◌}
+use mathlib.Core.Path.{◌≡◌}
 use lib.ListN.{length, drop}
 use Rattle.plan.specs.Boundary.{words_of}
-use Rattle.turns.proofs.Turning.{lowest, refused_at, fits_at, all_fit}
+use Rattle.turns.proofs.Turning.{lowest}
 use Rattle.turns.proofs.refused_there.Given as goal
 
 abbrev pub invariant-loop-i : goal.invariant-loop-i

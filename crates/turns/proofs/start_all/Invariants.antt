@@ -1,13 +1,10 @@
-use Prim.Native.Nat.{◌+◌, ◌-◌, ◌%◌, ◌≤◌}
-use mathlib.Core.Path.{◌≡◌, refl, ap, ◌∙◌}
-use native.Mathlib.Omega.{arith}
+use Prim.Native.Nat.{◌-◌, ◌%◌}
+use mathlib.Core.Path.{◌≡◌}
 use lib.ListN.{length}
-use Rattle.plan.specs.Dispatch.{start_state}
-use Rattle.plan.specs.Boundary.{words_of, state_bytes}
+use Rattle.plan.specs.Boundary.{words_of}
 use Rattle.modes.specs.Modes.{table_after}
-use Rattle.states.proofs.Bytes.{state_length}
-use Rattle.records.proofs.Rows.{Wrote, wrote_none, wrote_part, wrote_all}
-use Rattle.turns.proofs.Turning.{starts, started_all}
+use Rattle.records.proofs.Rows.{Wrote}
+use Rattle.turns.proofs.Turning.{starts}
 use Rattle.turns.proofs.start_all.Given as goal
 
 abbrev pub invariant-loop-i : goal.invariant-loop-i

@@ -1,6 +1,5 @@
 use mathlib.Core.Path.{refl}
 use Rattle.modes.specs.Modes.{table_after}
-use borrow.Author.Rules.{rules}
 use Rattle.turns.proofs.table_after.Goals as goal
 
 pub returns : goal.returns

@@ -1,6 +1,5 @@
 use mathlib.Core.Path.{refl}
 use borrow.Author.Tests.{ne_eqb}
-use borrow.Author.Rules.{rules}
 use Rattle.turns.proofs.turn_all.Goals as goal
 
 pub returns-then-lowest-ne0 : goal.returns-then-lowest-ne0

@@ -1,7 +1,6 @@
 use mathlib.Core.Path.{sym, ap, ◌∙◌}
 use Rattle.plan.specs.declared.Answer.{Answer}
 use Rattle.windows.proofs.Asked.{six_refused, six_passed}
-use borrow.Author.Rules.{rules}
 use Rattle.windows.proofs.ask.Goals as goal
 
 pub returns-then-pieces-ne0 : goal.returns-then-pieces-ne0

@@ -5,7 +5,6 @@ use Rattle.plan.specs.Questions.{question_at, each, piece_questions}
 use Rattle.plan.proofs.Asking.{refused_at}
 use Rattle.jobs.proofs.Gathering.{timed}
 use Rattle.windows.proofs.Asked.{asked_some, all_pass, on_budget}
-use borrow.Author.Rules.{rules}
 use Rattle.windows.proofs.ask_budgets.Goals as goal
 
 pub question_at-requires : goal.question_at-requires

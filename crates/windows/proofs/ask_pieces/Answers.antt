@@ -1,10 +1,7 @@
-use borrow.Author.Rules.{rules}
-use Prim.Native.Nat.{◌-◌, ◌≤◌}
 use mathlib.Core.Path.{sym, ◌∙◌}
 use native.Mathlib.Numerals.{add-one}
 use native.Mathlib.Omega.{arith}
 use Rattle.plan.specs.Questions.{piece_questions}
-use Rattle.plan.specs.Held.{Passed}
 use Rattle.plan.proofs.Asking.{passed_none, passed_more}
 use Rattle.windows.proofs.Asked.{refused_early, passed_early}
 use Rattle.windows.proofs.ask_pieces.Goals as goal

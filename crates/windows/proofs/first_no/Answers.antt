@@ -6,7 +6,6 @@ use Rattle.plan.specs.Held.{Passed, refusing}
 use Rattle.places.specs.Places.{table_for}
 use Rattle.clashes.specs.Clashes.{clear_of}
 use Rattle.clashes.proofs.Clashing.{windows_last, pieces_last}
-use borrow.Author.Rules.{rules}
 use Rattle.windows.proofs.first_no.Goals as goal
 
 -- src/lib.rt:113:14

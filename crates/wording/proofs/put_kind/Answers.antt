@@ -5,7 +5,6 @@ use Rattle.texts.specs.Wording.{wording}
 use Rattle.texts.proofs.Fitting.{named_bounds, kind_number}
 use Rattle.lines.proofs.Storing.{put_more, put_as}
 use Rattle.wording.proofs.Worded.{name_put}
-use borrow.Author.Rules.{rules}
 use Rattle.wording.proofs.put_kind.Goals as goal
 
 pub overflow_sub-table : goal.overflow_sub-table

@@ -3,7 +3,6 @@ use Rattle.texts.specs.Characters.{ascii}
 use Rattle.texts.specs.Wording.{line_of, ThreeWords}
 use Rattle.texts.proofs.Fitting.{line_short}
 use Rattle.lines.proofs.Storing.{put_more, put_within}
-use borrow.Author.Rules.{rules}
 use Rattle.wording.proofs.put_line.Goals as goal
 
 pub returns : goal.returns

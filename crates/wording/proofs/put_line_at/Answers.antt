@@ -3,7 +3,6 @@ use native.Mathlib.Omega.{arith}
 use lib.ListN.{drop, length-take, length-drop}
 use Rattle.wording.proofs.Texts.{line_inside, line_part}
 use Rattle.lines.proofs.Storing.{put_within}
-use borrow.Author.Rules.{rules}
 use Rattle.wording.proofs.put_line_at.Goals as goal
 
 pub slice_bounds-put_text-end : goal.slice_bounds-put_text-end

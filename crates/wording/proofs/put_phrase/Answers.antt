@@ -1,6 +1,5 @@
 use Rattle.texts.specs.Wording.{wording}
 use Rattle.wording.proofs.Worded.{phrase_put, unknown_put}
-use borrow.Author.Rules.{rules}
 use Rattle.wording.proofs.put_phrase.Goals as goal
 
 pub returns-then-number-lt-PHRASED : goal.returns-then-number-lt-PHRASED

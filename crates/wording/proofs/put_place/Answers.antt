@@ -1,7 +1,6 @@
 use Rattle.texts.specs.Characters.{ascii}
 use Rattle.texts.specs.Wording.{place}
 use Rattle.lines.proofs.Storing.{put_more}
-use borrow.Author.Rules.{rules}
 use Rattle.wording.proofs.put_place.Goals as goal
 
 pub returns : goal.returns

@@ -1,10 +1,8 @@
-use Prim.Native.Nat.{ℕ, ◌+◌, ◌-◌, ◌≤◌}
+use Prim.Native.Nat.{ℕ}
 use mathlib.Core.Path.{◌≡◌, refl, ap, ◌∙◌}
 use native.Mathlib.Omega.{arith}
 use lib.ListN.{length, take}
 use lib.Seq.{take-length}
-use borrow.Author.Rules.{rules}
-use Rattle.lines.specs.Putting.{Put}
 use Rattle.lines.proofs.Storing.{put_next, put_as, put_length}
 use Rattle.wording.proofs.put_text.Goals as goal
 

@@ -1,6 +1,5 @@
 use Rattle.texts.specs.Printed.{word_line}
 use Rattle.lines.proofs.Storing.{put_one, put_more}
-use borrow.Author.Rules.{rules}
 use Rattle.wording.proofs.put_words.Goals as goal
 
 pub returns : goal.returns

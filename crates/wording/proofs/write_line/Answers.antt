@@ -5,7 +5,6 @@ use lib.ListN.{length-take, length-replicate}
 use lib.Seq.{length-take-le}
 use Rattle.lines.proofs.Storing.{put_front, put_within}
 use Rattle.wording.proofs.Worded.{too_few, enough}
-use borrow.Author.Rules.{rules}
 use Rattle.wording.proofs.write_line.Goals as goal
 
 pub returns-then-line-length : goal.returns-then-line-length

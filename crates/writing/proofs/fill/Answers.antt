@@ -1,6 +1,5 @@
 use native.Mathlib.Omega.{arith}
 use Rattle.writing.proofs.Tables.{bytes_short, bytes_done}
-use borrow.Author.Rules.{rules}
 use Rattle.writing.proofs.fill.Goals as goal
 
 pub returns-then-bytes-count : goal.returns-then-bytes-count

@@ -1,6 +1,5 @@
 use Rattle.writing.proofs.AllTables.{all_short, all_done}
 use native.Mathlib.Omega.{arith}
-use borrow.Author.Rules.{rules}
 use Rattle.writing.proofs.fill_all.Goals as goal
 
 -- src/lib.rt:168:9

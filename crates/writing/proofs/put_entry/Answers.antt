@@ -1,5 +1,4 @@
 use Rattle.writing.proofs.Tables.{entry_stored}
-use borrow.Author.Rules.{rules}
 use Rattle.writing.proofs.put_entry.Goals as goal
 
 pub returns : goal.returns

@@ -1,10 +1,7 @@
-use Prim.Native.Nat.{ℕ, suc, ◌+◌, ◌-◌, ◌≤◌, ◌<◌}
-use mathlib.Core.Path.{◌≡◌, refl, ap, ◌∙◌}
-use native.Mathlib.Omega.{arith}
+use Prim.Native.Nat.{◌-◌, ◌≤◌}
+use mathlib.Core.Path.{◌≡◌}
 use lib.ListN.{length}
 use Rattle.plan.specs.Dispatch.{lanes, tables_below}
-use Rattle.writing.specs.AllTables.{all_tables}
-use Rattle.writing.proofs.AllTables.{below_next, below_small, count_small, lanes_small}
 use Rattle.writing.proofs.words_of_all.Given as goal
 
 abbrev pub invariant-loop-lane : goal.invariant-loop-lane

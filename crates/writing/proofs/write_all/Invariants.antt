@@ -1,13 +1,8 @@
-use Prim.Native.Nat.{ℕ, suc, ◌+◌, ◌-◌, ◌*◌, ◌≤◌, ◌<◌}
-use mathlib.Core.Path.{◌≡◌, refl, ap, ◌∙◌}
-use mathlib.Core.List.{List, flat_map}
-use native.Mathlib.Omega.{arith}
+use Prim.Native.Nat.{◌-◌, ◌*◌, ◌≤◌}
+use mathlib.Core.Path.{◌≡◌}
 use lib.ListN.{length}
-use Rattle.plan.specs.Dispatch.{lanes, table_of, tables_below}
+use Rattle.plan.specs.Dispatch.{lanes, tables_below}
 use Rattle.writing.specs.Stored.{stored}
-use Rattle.writing.specs.AllTables.{all_tables}
-use Rattle.writing.proofs.Storing.{stored_length}
-use Rattle.writing.proofs.AllTables.{below_next, below_inside, lanes_small, stored_next}
 use Rattle.writing.proofs.write_all.Given as goal
 
 abbrev pub invariant-loop-lane : goal.invariant-loop-lane

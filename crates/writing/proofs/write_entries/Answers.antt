@@ -1,14 +1,13 @@
-use Prim.Native.Nat.{ℕ, ◌-◌}
+use Prim.Native.Nat.{ℕ}
 use mathlib.Core.Path.{◌≡◌, ap, ◌∙◌}
 use native.Mathlib.Omega.{arith}
 use Rattle.plan.specs.Image.{cycle_ticks}
 use Rattle.plan.specs.Dispatch.{begins, entries, entry_count}
 use Rattle.plan.proofs.Searching.{count_most}
-use Rattle.lanes.specs.Walks.{Reached}
 use Rattle.lanes.proofs.Accepted.{cycle_small}
 use Rattle.plan.proofs.Sounds.{accepted_sound}
 use Rattle.writing.specs.Stored.{stored}
-use Rattle.writing.proofs.Storing.{Written, written_none, written_entry, written_same, written_length, room}
+use Rattle.writing.proofs.Storing.{written_none, written_entry, written_same, written_length, room}
 use Rattle.writing.proofs.write_entries.Goals as goal
 
 pub cycle_ticks-end-requires : goal.cycle_ticks-end-requires

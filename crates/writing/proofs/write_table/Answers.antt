@@ -1,7 +1,6 @@
 use mathlib.Core.Path.{refl}
 use Rattle.plan.proofs.Sounds.{accepted_sound}
 use Rattle.writing.proofs.Tables.{table_stored}
-use borrow.Author.Rules.{rules}
 use Rattle.writing.proofs.write_table.Goals as goal
 
 pub cycle_ticks-requires : goal.cycle_ticks-requires
