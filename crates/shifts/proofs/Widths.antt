@@ -115,7 +115,7 @@ module _ (x : Shift) (n : Narrow x) where
   placed_narrow word h [] w = tt
   placed_narrow word h (st ∷ sts) w =
       let v = w.0 in
-      (record { cycle = v.cycle; tick = v.tick; entry = v.entry; first = h; kind = v.kind; row = v.row }, placed_narrow _ (mod-lt _ (omega arith)) sts w.1)
+      (record { cycle = v.cycle; tick = v.tick; entry = v.entry; first = h; kind = v.kind; row = v.row }, placed_narrow (table_after x.words word) (mod-lt _ (omega arith)) sts w.1)
 
   taken_narrow : NarrowMode (taken x.plans x.words x.mode)
   unfolding taken

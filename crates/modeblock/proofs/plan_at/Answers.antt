@@ -1,4 +1,5 @@
 use Rattle.modeblock.proofs.Blocks.{at_place}
+use borrow.Author.Rules.{rules}
 use Rattle.modeblock.proofs.plan_at.Goals as goal
 
 pub returns : goal.returns
