@@ -1,8 +1,6 @@
-use Prim.Native.Nat.{suc, ◌+◌, ◌-◌, ◌/◌, ◌%◌, ◌≤◌}
+use Prim.Native.Nat.{suc, ◌+◌, ◌-◌, ◌/◌}
 use mathlib.Core.Path.{◌≡◌, refl, sym, ◌∙◌}
 use native.Mathlib.Omega.{arith}
-use lib.ListN.{length, replicate}
-use Rattle.writing.specs.Stored.{stored}
 use Rattle.modeblock.proofs.Blocks.{cleared, none_cleared}
 use Rattle.modeblock.proofs.clear.Goals as goal
 

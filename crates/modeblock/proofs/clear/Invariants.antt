@@ -1,9 +1,7 @@
-use Prim.Native.Nat.{suc, ◌+◌, ◌-◌, ◌/◌, ◌%◌, ◌≤◌}
-use mathlib.Core.Path.{◌≡◌, refl, sym, ◌∙◌}
-use native.Mathlib.Omega.{arith}
+use Prim.Native.Nat.{◌-◌, ◌/◌, ◌%◌, ◌≤◌}
+use mathlib.Core.Path.{◌≡◌}
 use lib.ListN.{length, replicate}
 use Rattle.writing.specs.Stored.{stored}
-use Rattle.modeblock.proofs.Blocks.{cleared, none_cleared}
 use Rattle.modeblock.proofs.clear.Given as goal
 
 abbrev pub invariant-loop-i : goal.invariant-loop-i

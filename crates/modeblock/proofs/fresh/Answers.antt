@@ -2,7 +2,6 @@ use mathlib.Core.Path.{refl, ◌∙◌}
 use Rattle.modeblock.specs.Blocks.{modes_fresh_number, modes_fresh_block}
 use Rattle.modeblock.proofs.Blocks.{fresh_stored}
 use Rattle.modeblock.proofs.Answers.{block_no, block_yes}
-use borrow.Author.Rules.{rules}
 use Rattle.modeblock.proofs.fresh.Goals as goal
 
 pub returns-then-block-ne-BLOCK : goal.returns-then-block-ne-BLOCK

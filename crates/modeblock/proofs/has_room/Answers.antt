@@ -3,7 +3,6 @@ use Rattle.modes.specs.Modes.{lane_count}
 use Rattle.words.proofs.Words.{words_length}
 use mathlib.Core.Path.{refl}
 use Rattle.modeblock.specs.Blocks.{has_row, has_room}
-use borrow.Author.Rules.{rules}
 use Rattle.modeblock.proofs.has_room.Goals as goal
 
 pub overflow_mul-row : goal.overflow_mul-row

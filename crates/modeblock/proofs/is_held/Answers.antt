@@ -2,7 +2,6 @@ use mathlib.Core.Path.{ap, ◌∙◌}
 use Rattle.modes.specs.Modes.{is_plan}
 use Rattle.modeblock.specs.Blocks.{plans_of}
 use Rattle.modeblock.proofs.Blocks.{held_in, held_out}
-use borrow.Author.Rules.{rules}
 use Rattle.modeblock.proofs.is_held.Goals as goal
 
 pub returns-then-place-lt-PLACES : goal.returns-then-place-lt-PLACES

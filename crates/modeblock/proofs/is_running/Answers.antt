@@ -1,10 +1,8 @@
 use mathlib.Core.Path.{refl, sym, ap, ◌∙◌}
 use native.Mathlib.Omega.{arith}
-use borrow.Author.Tests.{not-true, not-false}
 use Rattle.modes.specs.Modes.{lane_count, held}
 use Rattle.modeblock.specs.Blocks.{has_row, plans_of, runs}
 use Rattle.modeblock.proofs.Blocks.{held_place}
-use borrow.Author.Rules.{rules}
 use Rattle.modeblock.proofs.is_running.Goals as goal
 
 pub returns-then-not-is_held : goal.returns-then-not-is_held

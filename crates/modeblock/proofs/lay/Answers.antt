@@ -5,7 +5,6 @@ use lib.ListN.{length}
 use borrow.Rule.Slice.PartMut.{put_mid}
 use Rattle.writing.specs.AllTables.{all_tables}
 use Rattle.modeblock.proofs.Blocks.{all_small, too_few, too_far, room, stored_part}
-use borrow.Author.Rules.{rules}
 use Rattle.modeblock.proofs.lay.Goals as goal
 
 pub overflow_add-end : goal.overflow_add-end
@@ -14,12 +13,12 @@ overflow_add-end c = omega (arith, c.words_of_all.ensures, all_small c.args.imag
 pub returns-then-all-end : goal.returns-then-all-end
 returns-then-all-end c =
     let e = too_few c.args.image.now c.args.used c.args.words.now (omega (arith, c.words_of_all.ensures, c.if-all-end.true)) in
-    record { value = rw e refl; words_after = rw e refl; }
+    record { value = rw e refl; words_after = rw e refl }
 
 pub returns-then-end-ge4294967296 : goal.returns-then-end-ge4294967296
 returns-then-end-ge4294967296 c =
     let e = too_far c.args.image.now c.args.used c.args.words.now (omega (arith, c.words_of_all.ensures, c.if-end-ge4294967296.true)) in
-    record { value = rw e refl; words_after = rw e refl; }
+    record { value = rw e refl; words_after = rw e refl }
 
 pub returns : goal.returns
 returns c =

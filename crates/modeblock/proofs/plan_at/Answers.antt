@@ -1,5 +1,4 @@
 use Rattle.modeblock.proofs.Blocks.{at_place}
-use borrow.Author.Rules.{rules}
 use Rattle.modeblock.proofs.plan_at.Goals as goal
 
 pub returns : goal.returns

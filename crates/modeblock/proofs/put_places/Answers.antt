@@ -1,5 +1,4 @@
 use Rattle.writing.proofs.Tables.{two_stored}
-use borrow.Author.Rules.{rules}
 use Rattle.modeblock.proofs.put_places.Goals as goal
 
 pub returns : goal.returns

@@ -1,6 +1,5 @@
 use Prim.Native.Nat.{◌+◌, ◌*◌}
 use Rattle.modeblock.proofs.Blocks.{plan_stored}
-use borrow.Author.Rules.{rules}
 use Rattle.modeblock.proofs.put_plan.Goals as goal
 
 pub returns : goal.returns

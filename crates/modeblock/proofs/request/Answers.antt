@@ -1,11 +1,9 @@
 use mathlib.Core.Path.{sym, ◌∙◌}
 use native.Mathlib.Omega.{arith}
-use borrow.Author.Tests.{not-true, not-false}
 use Rattle.writing.proofs.Storing.{stored_one}
 use Rattle.modeblock.specs.Blocks.{plans_of}
 use Rattle.modeblock.proofs.Blocks.{held_place}
 use Rattle.modeblock.proofs.Answers.{request_refused, request_other, request_43, request_44, request_done}
-use borrow.Author.Rules.{rules}
 use Rattle.modeblock.proofs.request.Goals as goal
 
 pub returns-then-block-ne-BLOCK : goal.returns-then-block-ne-BLOCK

@@ -1,9 +1,7 @@
 use mathlib.Core.Path.{refl, sym, ap, ◌∙◌}
-use borrow.Author.Tests.{not-true, not-false}
 use Rattle.modes.specs.Modes.{held}
 use Rattle.modeblock.specs.Blocks.{plans_of}
 use Rattle.modeblock.proofs.Blocks.{held_place}
-use borrow.Author.Rules.{rules}
 use Rattle.modeblock.proofs.runs_like.Goals as goal
 
 pub returns-then-not-is_held : goal.returns-then-not-is_held
