@@ -1,10 +1,9 @@
-use Prim.Native.Nat.{ℕ, ◌-◌, ◌≤◌}
+use Prim.Native.Nat.{ℕ}
 use mathlib.Core.Path.{◌≡◌, refl, ap, ◌∙◌}
 use native.Mathlib.Omega.{arith}
-use lib.ListN.{length, get_or, take, length-set}
+use lib.ListN.{get_or, take, length-set}
 use lib.Seq.{sets}
 use Rattle.gating.proofs.Copying.{copy_turn}
-use borrow.Author.Rules.{rules}
 use Rattle.gating.proofs.copy.Goals as goal
 
 -- src/lib.rt:55:5

@@ -1,4 +1,4 @@
-use Prim.Native.Nat.{ℕ, ◌-◌, ◌*◌, ◌≤◌}
+use Prim.Native.Nat.{ℕ, ◌*◌}
 use mathlib.Core.Path.{◌≡◌, refl, ap, ◌∙◌}
 use mathlib.Core.List.{flat_map}
 use native.Mathlib.Omega.{arith}
@@ -7,7 +7,6 @@ use lib.Seq.{length-sets}
 use Rattle.plan.specs.Boundary.{bytes_of}
 use Rattle.writing.specs.Stored.{stored}
 use Rattle.gating.proofs.Copying.{store_turn}
-use borrow.Author.Rules.{rules}
 use Rattle.gating.proofs.copy_bytes.Goals as goal
 
 -- src/lib.rt:67:5

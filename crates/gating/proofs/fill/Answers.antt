@@ -2,7 +2,6 @@ use mathlib.Core.Path.{refl}
 use native.Mathlib.Omega.{arith}
 use lib.ListN.{length, get_or}
 use Rattle.gating.proofs.Answers.{words_kept, words_done, count_is, many_is, take_is}
-use borrow.Author.Rules.{rules}
 use Rattle.gating.proofs.fill.Goals as goal
 
 -- src/lib.rt:82:9

@@ -7,7 +7,6 @@ use Rattle.plan.specs.Image.{rows}
 use Rattle.plan.proofs.Numbers.{accepted_of}
 use Rattle.plan.proofs.Sounds.{accepted_sound}
 use Rattle.gating.proofs.Answers.{list_refused, list_no_link, list_short, list_done}
-use borrow.Author.Rules.{rules}
 use Rattle.gating.proofs.list_gates.Goals as goal
 
 -- src/lib.rt:37:9

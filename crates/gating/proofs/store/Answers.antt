@@ -3,7 +3,6 @@ use mathlib.Core.Path.{refl}
 use native.Mathlib.Omega.{arith}
 use lib.ListN.{length, get_or}
 use Rattle.gating.proofs.Answers.{bytes_answer, bytes_kept, bytes_room, bytes_done, count_is, many_is, take_is}
-use borrow.Author.Rules.{rules}
 use Rattle.gating.proofs.store.Goals as goal
 
 -- src/lib.rt:97:9
