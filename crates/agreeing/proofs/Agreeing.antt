@@ -1,54 +1,48 @@
 -- Rows of two plans that have equal words.
-use Prim.Native.Nat.{ℕ, ◌+◌, ◌≤◌, ◌<◌}
-use mathlib.Core.Path.{◌≡◌, refl, sym, ap, ◌∙◌, subst}
+use Prim.Native.Nat.{ℕ, ◌≤◌, ◌<◌}
+use mathlib.Core.Path.{◌≡◌, refl, sym, ap, ◌∙◌}
 use mathlib.Core.Logic.{◌⊎◌, inl, inr}
 use mathlib.Core.Bool.{Bool, true, false, ◌&&◌}
 use mathlib.Core.List.{List}
-use native.Mathlib.Nat.{eq-or-lt_of_le, le_of_suc-le-suc}
-use native.Mathlib.Numerals.{add-one}
 use native.Mathlib.Omega.{arith}
-use lib.Dec.{leb}
+use lib.Dec.{leb, eqb}
 use lib.ListN.{length, get_or}
 use lib.Seq.{ext_get_or}
-use borrow.Author.Tests.{eq-eqb, ne_eqb, le-leb, lt-leb}
+use borrow.Author.Tests.{eqb-true, eq-eqb, ne_eqb, le-leb, lt-leb}
 use Rattle.plan.specs.declared.Table.{Table}
 use Rattle.plan.specs.declared.Table.TheVariants.{Tasks}
 use Rattle.plan.specs.Image.{shape, rows, field}
+use Rattle.plan.specs.Search.{all}
+use Rattle.plan.proofs.Searching.{all_yes, yes_all}
 use Rattle.joins.specs.Joins.{row_words, same_words, agree_to, agree, tasks_shared}
 use Rattle.joins.proofs.Lists.{row_long, word_of, same_words_holds, same_self}
 
 module _ (a b : List ℕ) (t : Table) (r : ℕ) where
-  -- the words before the j-th are equal
-  abbrev pub SameTo : ℕ → Type 0
-  SameTo j = (k : ℕ) → k < j → field a t r k ≡ field b t r k
-
-  pub same_none : SameTo 0
-  same_none k l = absurd (omega arith)
-
-  pub same_more : (j : ℕ) → SameTo j → field a t r j ≡ field b t r j → SameTo (j + 1)
-  same_more j h e k l = go (eq-or-lt_of_le (le_of_suc-le-suc (subst (λ (n : ℕ). k < n) (add-one j) l)))
-    where
-      go : (k ≡ j) ⊎ (k < j) → field a t r k ≡ field b t r k
-      go (inl q) = subst (λ (n : ℕ). field a t r n ≡ field b t r n) (sym q) e
-      go (inr q) = h k q
-
   long : (s : List ℕ) → length (row_words s t r) ≡ (shape t).width
   unfolding row_words
   long s = row_long s t (λ j w. w) r
 
-  pub same_all : (j : ℕ) → j ≡ (shape t).width → SameTo j → true ≡ same_words (row_words a t r) (row_words b t r)
-  same_all j e h =
-      let q : row_words a t r ≡ row_words b t r =
-      ext_get_or 0 (row_words a t r) (row_words b t r) (long a ∙ sym (long b))
-      (λ i l. let k : i < (shape t).width = omega (arith, long a) in word_of a t r i k ∙ h i (omega arith) ∙ sym (word_of b t r i k)) in
-      sym (ap (same_words (row_words a t r)) (sym q) ∙ same_self (row_words a t r))
+  abbrev pub agrees : ℕ → Bool
+  agrees j = eqb (field a t r j) (field b t r j)
 
-  pub differ : (j : ℕ) → j < (shape t).width → (field a t r j ≡ field b t r j → ⊥) → false ≡ same_words (row_words a t r) (row_words b t r)
-  differ j l d = go (same_words (row_words a t r) (row_words b t r)) refl
+  pub words_agree : (n : ℕ) → n ≡ (shape t).width → all n agrees ≡ same_words (row_words a t r) (row_words b t r)
+  words_agree n e = go (all n agrees) refl (same_words (row_words a t r) (row_words b t r)) refl
     where
-      go : (c : Bool) → same_words (row_words a t r) (row_words b t r) ≡ c → false ≡ same_words (row_words a t r) (row_words b t r)
-      go true e = absurd (d (sym (word_of a t r j l) ∙ ap (λ (x : List ℕ). get_or x j 0) (same_words_holds (row_words a t r) (row_words b t r) e) ∙ word_of b t r j l))
-      go false e = sym e
+      equal : all n agrees ≡ true → row_words a t r ≡ row_words b t r
+      equal h =
+          ext_get_or 0 (row_words a t r) (row_words b t r) (long a ∙ sym (long b))
+          (λ i l. let k : i < (shape t).width = omega (arith, long a) in word_of a t r i k ∙ eqb-true _ _ (all_yes agrees n h i (omega arith)) ∙ sym (word_of b t r i k))
+
+      every : row_words a t r ≡ row_words b t r → all n agrees ≡ true
+      every h =
+          yes_all agrees n
+          (λ i l. let k : i < (shape t).width = omega arith in eq-eqb _ _ (sym (word_of a t r i k) ∙ ap (λ (x : List ℕ). get_or x i 0) h ∙ word_of b t r i k))
+
+      go : (c : Bool) → all n agrees ≡ c → (d : Bool) → same_words (row_words a t r) (row_words b t r) ≡ d → c ≡ d
+      go true p true q = refl
+      go true p false q = sym (same_self (row_words a t r)) ∙ ap (same_words (row_words a t r)) (equal p) ∙ q
+      go false p true q = sym p ∙ every (same_words_holds (row_words a t r) (row_words b t r) q)
+      go false p false q = refl
 
 -- ---- tables and tasks
 

@@ -15,14 +15,10 @@ fn row_agrees(first: &[u8], second: &[u8], table: Table, row: u32) -> bool
     ensures { result ≡ same_words (row_words first.now table row) (row_words second.now table row) }
 {
     let width = shape_of(table).width;
-    let mut j: u32 = 0;
-    while j < width {
-        if field_of(first, table, row, j) != field_of(second, table, row, j) {
-            return false;
-        }
-        j += 1;
-    }
-    true
+    searching::all(
+        width,
+        |j| field_of(first, table, row, j) == field_of(second, table, row, j),
+    )
 }
 
 // Have the first n rows of a table?
@@ -30,14 +26,7 @@ fn rows_agree(first: &[u8], second: &[u8], table: Table, n: u32) -> bool
     requires { Ready first.now second.now × ((n ≤ rows first.now table) × (n ≤ rows second.now table)) }
     ensures { result ≡ agree_to first.now second.now n table }
 {
-    let mut row: u32 = 0;
-    while row < n {
-        if !row_agrees(first, second, table, row) {
-            return false;
-        }
-        row += 1;
-    }
-    true
+    searching::all(n, |row| row_agrees(first, second, table, row))
 }
 
 // Has a table as many rows in both, with equal words?

@@ -7,6 +7,7 @@ ghost use Rattle.plan.specs.declared.Table.TheVariants.{Frames};
 ghost use Rattle.plan.specs.Image.{rows};
 ghost use Rattle.plan.specs.Questions.{answer_of, accepted};
 ghost use Rattle.arrivals.specs.Arrivals.{refusal, arrivals_of, lent_answer, arrival_bytes};
+ghost use Rattle.arriving.specs.Asked.{Asks};
 
 use arrivals::Arrival;
 use plan::{Answer, Table};
@@ -39,22 +40,29 @@ fn ticks_of(image: &[u8], frame: u32) -> Arrival
     }
 }
 
-// A frame's arrivals. Asks the check's questions, then 5 of the row.
-pub fn arrivals(image: &[u8], frame: u32) -> Arrival
-    ensures { result ≡ arrivals_of image.now frame }
+// Asks the check's questions, then 5 of the row.
+fn ask(image: &[u8], frame: u32) -> Result<(), Answer>
+    ensures { Asks image.now frame result }
 {
-    let answer = questions::check(image);
-    if answer.number != 0 {
-        return refused(answer);
-    }
+    questions::ask(image)?;
     if rows_of(image, Table::Frames) <= frame {
-        return refused(Answer {
+        return Err(Answer {
             number: 5,
             table: 8,
             row: frame,
         });
     }
-    ticks_of(image, frame)
+    Ok(())
+}
+
+// A frame's arrivals. Asks the check's questions, then 5 of the row.
+pub fn arrivals(image: &[u8], frame: u32) -> Arrival
+    ensures { result ≡ arrivals_of image.now frame }
+{
+    match ask(image, frame) {
+        Ok(()) => ticks_of(image, frame),
+        Err(no) => refused(no),
+    }
 }
 
 // The same into lent bytes, as two words, the earliest tick and the latest: then 26, are there two words? Later bytes, and all bytes after a
@@ -62,17 +70,13 @@ pub fn arrivals(image: &[u8], frame: u32) -> Arrival
 pub fn store(image: &[u8], frame: u32, bytes: &mut [u8]) -> Answer
     ensures { (result ≡ lent_answer image.now frame bytes.old) × (bytes.new ≡ arrival_bytes image.now frame bytes.old) }
 {
-    let found = arrivals(image, frame);
-    if found.answer.number != 0 {
-        return found.answer;
+    if let Err(no) = ask(image, frame) {
+        return no;
     }
     if bytes.len() / 4 < 2 {
-        return Answer {
-            number: 26,
-            table: 0,
-            row: 0,
-        };
+        return plan::refused(26);
     }
+    let found = ticks_of(image, frame);
     put_word(bytes, 0, found.earliest);
     put_word(bytes, 4, found.latest);
     found.answer

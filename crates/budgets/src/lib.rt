@@ -10,7 +10,7 @@ ghost use Rattle.plan.specs.Held.{Sound, Passed};
 ghost use Rattle.jobs.specs.Times.{AllGathered, TasksBefore, JobsBefore};
 
 use jobs::{JOBS, WORKS};
-use plan::{Found, Table};
+use plan::Table;
 use tables::{rows_of, task_at};
 use terms::jobs_of;
 
@@ -34,28 +34,14 @@ fn task_budget(image: &[u8], times: &[u32], task: u32) -> bool
     ensures { result ≡ task_budget image.now task }
 {
     let jobs = jobs_of(image, task);
-    let mut job: u32 = 0;
-    while job < jobs {
-        if !job_budget(image, times, task, job) {
-            return false;
-        }
-        job += 1;
-    }
-    true
+    searching::all(jobs, |job| job_budget(image, times, task, job))
 }
 
 // 13: the lowest task with a job that has not its budget.
-pub fn first_off_budget(image: &[u8], times: &[u32]) -> Found
+pub fn first_off_budget(image: &[u8], times: &[u32]) -> Option<u32>
     requires { Sound image.now × (Passed (piece_questions image.now) 6 × AllGathered image.now times.now) }
     ensures { result ≡ first_no (rows image.now Tasks) (task_budget image.now) }
 {
     let tasks = rows_of(image, Table::Tasks);
-    let mut task: u32 = 0;
-    while task < tasks {
-        if !task_budget(image, times, task) {
-            return Found::At(task);
-        }
-        task += 1;
-    }
-    Found::Nothing
+    searching::first_no(tasks, |task| task_budget(image, times, task))
 }

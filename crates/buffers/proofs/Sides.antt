@@ -5,18 +5,19 @@ use mathlib.Core.Bool.{Bool, true, false, not, ◌&&◌, cond, true≢false}
 use mathlib.Core.List.{List}
 use mathlib.Core.Logic.{◌⊎◌, inl, inr}
 use Rattle.plan.proofs.Searching.{and_true}
-use native.Mathlib.Omega.{arith}
 use lib.Dec.{ltb, leb}
 use borrow.Author.Tests.{leb-true, leb-false, ltb-true, ltb-false}
 use Rattle.plan.specs.Image.{buffer}
 use Rattle.plan.specs.Search.{Interval, overlap, all}
 use Rattle.plan.specs.Questions.{jobs, hold}
+use Rattle.buffers.specs.declared.Side.{Side}
+use Rattle.buffers.specs.declared.Side.TheVariants.{Overlap, FirstOver, SecondOver}
 use Rattle.buffers.specs.Holds.{hold_of, side_of, holds_apart}
 use Rattle.buffers.proofs.Merging.{other_side}
 
 -- by the two tests
-side : Bool → Bool → ℕ
-side o l = cond o 0 (cond l 1 2)
+side : Bool → Bool → Side
+side o l = cond o Overlap (cond l FirstOver SecondOver)
 
 module _ (s : List ℕ) (q r j k : ℕ) where
   abbrev a : Interval
@@ -29,33 +30,33 @@ module _ (s : List ℕ) (q r j k : ℕ) where
   unfolding side_of hold_of overlap side
   tests = refl
 
-  over : (o l : Bool) → side o l ≡ 0 → o ≡ true
+  over : (o l : Bool) → side o l ≡ Overlap → o ≡ true
   unfolding side
   over true l e = refl
-  over false true e = absurd (omega arith)
-  over false false e = absurd (omega arith)
+  over false true e = cc
+  over false false e = cc
 
-  first_over : (o l : Bool) → side o l ≡ 1 → l ≡ true
+  first_over : (o l : Bool) → side o l ≡ FirstOver → l ≡ true
   unfolding side
-  first_over true l e = absurd (omega arith)
+  first_over true l e = cc
   first_over false true e = refl
-  first_over false false e = absurd (omega arith)
+  first_over false false e = cc
 
-  second_over : (o l : Bool) → (side o l ≡ 0 → ⊥) → (side o l ≡ 1 → ⊥) → (o ≡ false) × (l ≡ false)
+  second_over : (o l : Bool) → side o l ≡ SecondOver → (o ≡ false) × (l ≡ false)
   unfolding side
-  second_over true l e f = absurd (e refl)
-  second_over false true e f = absurd (f refl)
-  second_over false false e f = (refl, refl)
+  second_over true l e = absurd (let z : Overlap ≡ SecondOver = e in cc)
+  second_over false true e = absurd (let z : FirstOver ≡ SecondOver = e in cc)
+  second_over false false e = (refl, refl)
 
-  pub side_0 : side_of (hold_of s q j) (hold_of s r k) ≡ 0 → overlap a b ≡ true
-  side_0 e = over (overlap a b) (leb a.to b.from) (sym tests ∙ e)
+  pub holds_overlap : side_of (hold_of s q j) (hold_of s r k) ≡ Overlap → overlap a b ≡ true
+  holds_overlap e = over (overlap a b) (leb a.to b.from) (sym tests ∙ e)
 
-  pub side_1 : side_of (hold_of s q j) (hold_of s r k) ≡ 1 → a.to ≤ b.from
-  side_1 e = leb-true _ _ (first_over (overlap a b) (leb a.to b.from) (sym tests ∙ e))
+  pub first_is_over : side_of (hold_of s q j) (hold_of s r k) ≡ FirstOver → a.to ≤ b.from
+  first_is_over e = leb-true _ _ (first_over (overlap a b) (leb a.to b.from) (sym tests ∙ e))
 
-  pub side_2 : (side_of (hold_of s q j) (hold_of s r k) ≡ 0 → ⊥) → (side_of (hold_of s q j) (hold_of s r k) ≡ 1 → ⊥) → b.to ≤ a.from
-  side_2 e f =
-      let w = second_over (overlap a b) (leb a.to b.from) (λ z. e (tests ∙ z)) (λ z. f (tests ∙ z)) in
+  pub second_is_over : side_of (hold_of s q j) (hold_of s r k) ≡ SecondOver → b.to ≤ a.from
+  second_is_over e =
+      let w = second_over (overlap a b) (leb a.to b.from) (sym tests ∙ e) in
       other_side a b w.0 (leb-false a.to b.from w.1)
 
 -- the jobs as the code counted them

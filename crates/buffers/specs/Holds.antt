@@ -4,6 +4,8 @@ use Rattle.plan.specs.Image.{buffer}
 use Rattle.plan.specs.Search.{all, overlap}
 use Rattle.plan.specs.Questions.{jobs, first_start, last_end, hold}
 use Rattle.buffers.specs.declared.Hold.{Hold}
+use Rattle.buffers.specs.declared.Side.{Side}
+use Rattle.buffers.specs.declared.Side.TheVariants.{Overlap, FirstOver, SecondOver}
 
 -- 23, of one job
 unfoldable pub waits : List ℕ → ℕ → ℕ → Bool
@@ -13,9 +15,9 @@ waits s b k = leb (last_end s (buffer s b).writer k) (first_start s (buffer s b)
 unfoldable pub hold_of : List ℕ → ℕ → ℕ → Hold
 hold_of s b k = record { from = (hold s b k).from; to = (hold s b k).to }
 
--- 24: 0 where two holds overlap; else which one is over when the other begins
-unfoldable pub side_of : Hold → Hold → ℕ
-side_of a b = cond (ltb a.from b.to && ltb b.from a.to) 0 (cond (leb a.to b.from) 1 2)
+-- 24: whether two holds overlap; else which one is over when the other begins
+unfoldable pub side_of : Hold → Hold → Side
+side_of a b = cond (ltb a.from b.to && ltb b.from a.to) Overlap (cond (leb a.to b.from) FirstOver SecondOver)
 
 -- 24: no hold of row q overlaps one of row r
 unfoldable pub holds_apart : List ℕ → ℕ → ℕ → Bool

@@ -5,14 +5,16 @@ ghost use Rattle.std.specs.Prelude.{◌≡◌, ◌<◌};
 ghost use Rattle.plan.specs.declared.Table.TheVariants.{Buffers};
 ghost use Rattle.plan.specs.Image.{rows, buffer};
 ghost use Rattle.plan.specs.Questions.{jobs, buffer_ends, reader_waits, same_buffer, hold_apart, hold_clear};
-ghost use Rattle.plan.specs.Questions.{question_at, piece_questions, buffer_questions, answer_to};
-ghost use Rattle.plan.specs.Held.{Sound, Passed, Listed, refusing};
+ghost use Rattle.plan.specs.Questions.{piece_questions, buffer_questions};
+ghost use Rattle.plan.specs.Held.{Sound, Passed};
+ghost use Rattle.asking.specs.Asking.{verdict};
 ghost use Rattle.jobs.specs.Times.{Timed};
 ghost use Rattle.buffers.specs.Holds.{waits, hold_of, side_of, holds_apart};
 
+use asking::each_row;
 use jobs::{first_start, last_end};
-use plan::{Answer, Asked, Found, Table};
-use tables::{buffer_at, refusal, rows_of, task_at};
+use plan::{Answer, Asked, Table};
+use tables::{buffer_at, task_at};
 use terms::{jobs_of, node_of};
 
 // 22: have writer and reader equal periods and one node?
@@ -45,20 +47,14 @@ fn job_waits(image: &[u8], times: &[u32], row: u32, job: u32) -> bool
 }
 
 // 23: does every job?
+#[tactic(auto, unfolding(plan::specs::Questions::reader_waits, crate::specs::Holds::waits))]
 fn reader_waits(image: &[u8], times: &[u32], row: u32) -> bool
     requires sound { Sound image.now × Timed image.now times.now }
     requires row_bound { (row < rows image.now Buffers) × Passed (buffer_questions image.now) 1 }
     ensures { result ≡ reader_waits image.now row }
 {
     let jobs = buffer_jobs(image, row);
-    let mut job: u32 = 0;
-    while job < jobs {
-        if !job_waits(image, times, row, job) {
-            return false;
-        }
-        job += 1;
-    }
-    true
+    searching::all(jobs, |job| job_waits(image, times, row, job))
 }
 
 // A hold: from the writer's first start to the reader's last end.
@@ -92,16 +88,23 @@ fn same_buffer(image: &[u8], lower: u32, row: u32) -> bool
     numbers & nodes
 }
 
-// 24: 0 where two holds overlap; else which one is over when the other begins, 1 or 2.
-fn side_of(a: Hold, b: Hold) -> u32
+// 24: whether two holds overlap; else which one is over when the other begins.
+#[derive(Clone, Copy)]
+enum Side {
+    Overlap,
+    FirstOver,
+    SecondOver,
+}
+
+fn side_of(a: Hold, b: Hold) -> Side
     ensures { result ≡ side_of a b }
 {
     if (a.from < b.to) & (b.from < a.to) {
-        0
+        Side::Overlap
     } else if a.to <= b.from {
-        1
+        Side::FirstOver
     } else {
-        2
+        Side::SecondOver
     }
 }
 
@@ -119,13 +122,10 @@ fn holds_apart(image: &[u8], times: &[u32], lower: u32, row: u32) -> bool
     while (j < lower_jobs) & (k < jobs) {
         let a = hold_of(image, times, lower, j);
         let b = hold_of(image, times, row, k);
-        let side = side_of(a, b);
-        match side {
-            0 => {
-                return false;
-            }
-            1 => j += 1,
-            _ => k += 1,
+        match side_of(a, b) {
+            Side::Overlap => return false,
+            Side::FirstOver => j += 1,
+            Side::SecondOver => k += 1,
         }
     }
     true
@@ -145,96 +145,37 @@ fn row_apart(image: &[u8], times: &[u32], lower: u32, row: u32) -> bool
 }
 
 // 24: and from all of them?
+#[tactic(auto, unfolding(plan::specs::Questions::hold_clear, plan::specs::Search::clear))]
 fn hold_clear(image: &[u8], times: &[u32], row: u32) -> bool
     requires sound { Sound image.now × (Passed (piece_questions image.now) 7 × Timed image.now times.now) }
     requires row_bound { (row < rows image.now Buffers) × Passed (buffer_questions image.now) 1 }
     ensures { result ≡ hold_clear image.now row }
 {
-    let mut lower: u32 = 0;
-    while lower < row {
-        if !row_apart(image, times, lower, row) {
-            return false;
-        }
-        lower += 1;
-    }
-    true
+    searching::all(row, |lower| row_apart(image, times, lower, row))
 }
 
-// The questions, by their place in the list.
-const BUFFER_ENDS: u32 = 0;
+// The questions.
+const BUFFER_ENDS: Asked = Asked {
+    number: 22,
+    table: Table::Buffers,
+};
 
-const READER_WAITS: u32 = 1;
+const READER_WAITS: Asked = Asked {
+    number: 23,
+    table: Table::Buffers,
+};
 
-const HOLD_CLEAR: u32 = 2;
-
-// How many there are.
-const QUESTIONS: u32 = 3;
-
-// The list: each question's number and table, in the order asked.
-fn question_at(place: u32) -> Asked
-    requires { place < 3 }
-    ensures { Listed buffer_questions place result }
-{
-    match place {
-        BUFFER_ENDS => Asked {
-            number: 22,
-            table: Table::Buffers,
-        },
-        READER_WAITS => Asked {
-            number: 23,
-            table: Table::Buffers,
-        },
-        _ => Asked {
-            number: 24,
-            table: Table::Buffers,
-        },
-    }
-}
-
-// Does a row pass question 22, 23 or 24?
-fn passes(image: &[u8], times: &[u32], place: u32, row: u32) -> bool
-    requires sound { Sound image.now × (Passed (piece_questions image.now) 7 × Timed image.now times.now) }
-    requires place_bound { (place < 3) × (Passed (buffer_questions image.now) place × (row < rows image.now Buffers)) }
-    ensures { result ≡ (question_at (buffer_questions image.now) place).ok row }
-{
-    match place {
-        BUFFER_ENDS => buffer_ends(image, row),
-        READER_WAITS => reader_waits(image, times, row),
-        _ => hold_clear(image, times, row),
-    }
-}
-
-// The lowest row that says no.
-fn first_no(image: &[u8], times: &[u32], place: u32) -> Found
-    requires sound { Sound image.now × (Passed (piece_questions image.now) 7 × Timed image.now times.now) }
-    requires place_bound { (place < 3) × Passed (buffer_questions image.now) place }
-    ensures { result ≡ refusing (question_at (buffer_questions image.now) place) }
-{
-    let rows = rows_of(image, Table::Buffers);
-    let mut row: u32 = 0;
-    while row < rows {
-        if !passes(image, times, place, row) {
-            return Found::At(row);
-        }
-        row += 1;
-    }
-    Found::Nothing
-}
+const HOLD_CLEAR: Asked = Asked {
+    number: 24,
+    table: Table::Buffers,
+};
 
 // Questions 22 to 24, in this order.
-pub fn ask(image: &[u8], times: &[u32]) -> Answer
+pub fn ask(image: &[u8], times: &[u32]) -> Result<(), Answer>
     requires { Sound image.now × (Passed (piece_questions image.now) 7 × Timed image.now times.now) }
-    ensures { result ≡ answer_to (buffer_questions image.now) }
+    ensures { result ≡ verdict (buffer_questions image.now) }
 {
-    let mut place: u32 = 0;
-    while place < QUESTIONS {
-        match first_no(image, times, place) {
-            Found::At(row) => {
-                return refusal(question_at(place), row);
-            }
-            Found::Nothing => {}
-        }
-        place += 1;
-    }
-    plan::accepted()
+    each_row(image, BUFFER_ENDS, |row| buffer_ends(image, row))?;
+    each_row(image, READER_WAITS, |row| reader_waits(image, times, row))?;
+    each_row(image, HOLD_CLEAR, |row| hold_clear(image, times, row))
 }

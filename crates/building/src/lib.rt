@@ -4,23 +4,18 @@
 ghost use Rattle.lanes.specs.Words.{Filled};
 
 use lanes::lane_count;
-use plan::Answer;
+use plan::{Answer, refused};
 
 // Builds a lane's table: asks the check's questions, then 25 and 26, and writes H, n and the entries from word 0 on. Later words, and all words
 // after a refusal, stay as they are.
 pub fn build(image: &[u8], lane: u32, words: &mut [u32]) -> Answer
     ensures { Filled image.now lane words.old result words.new }
 {
-    let answer = questions::check(image);
-    if answer.number != 0 {
-        return answer;
+    if let Err(no) = questions::ask(image) {
+        return no;
     }
     if lane_count(image) <= lane {
-        return Answer {
-            number: 25,
-            table: 0,
-            row: 0,
-        };
+        return refused(25);
     }
     let mut charges = [0u32; lanes::CHARGES];
     let mut index = [0u32; lanes::INDEX];

@@ -2,7 +2,7 @@
 // a check; then the step cases. What is printed is compared with the paper's lines, and the queue's, in the file stdout.
 #![tactic(auto)]
 
-ghost use Rattle.std.specs.Prelude.{◌<◌};
+ghost use Rattle.std.specs.Prelude.{◌<◌, length};
 
 use plan::LaneState;
 
@@ -22,31 +22,31 @@ const CASE_B: [u32; 71] = [
     96, 2, 128, 1, 148, 1, 172, 1, 192, 0, 192, 0, 192,
 ];
 
-// Changes to A, a row of four each: a word's place and its new value, twice; place 99 changes nothing. In the paper's order.
-const A_CHANGES: [u32; 60] = [
-    99, 0, 99, 0, // A: 0 0 0
-    8, 6, 99, 0, // D = 6: 0 0 0
-    8, 5, 99, 0, // D = 5: 10 5 0
-    15, 3, 99, 0, // piece length 3: 13 3 0
-    14, 1, 99, 0, // piece start 1: 11 5 0
-    5, 3, 99, 0, // mask 3: 0 0 0
-    5, 2, 99, 0, // mask 2: 9 3 0
-    5, 2, 14, 1, // mask 2, piece start 1: 9 3 0
-    11, 2, 99, 0, // window length 2: 7 4 0
-    11, 3, 99, 0, // window length 3: 11 5 0
-    6, 3, 99, 0, // T = 3: 6 3 0
-    9, 1, 99, 0, // window of VCPU 1: 5 4 0
-    13, 1, 99, 0, // job 1: 10 5 0
-    16, 0, 99, 0, // H = 0: 4 0 0
-    38, 63, 99, 0, // last word 63: 2 0 0
+// Changes to A: a word's place and its new value, twice; place 99 changes nothing. In the paper's order.
+const A_CHANGES: [[u32; 4]; 15] = [
+    [99, 0, 99, 0], // A: 0 0 0
+    [8, 6, 99, 0], // D = 6: 0 0 0
+    [8, 5, 99, 0], // D = 5: 10 5 0
+    [15, 3, 99, 0], // piece length 3: 13 3 0
+    [14, 1, 99, 0], // piece start 1: 11 5 0
+    [5, 3, 99, 0], // mask 3: 0 0 0
+    [5, 2, 99, 0], // mask 2: 9 3 0
+    [5, 2, 14, 1], // mask 2, piece start 1: 9 3 0
+    [11, 2, 99, 0], // window length 2: 7 4 0
+    [11, 3, 99, 0], // window length 3: 11 5 0
+    [6, 3, 99, 0], // T = 3: 6 3 0
+    [9, 1, 99, 0], // window of VCPU 1: 5 4 0
+    [13, 1, 99, 0], // job 1: 10 5 0
+    [16, 0, 99, 0], // H = 0: 4 0 0
+    [38, 63, 99, 0], // last word 63: 2 0 0
 ];
 
 // Changes to B.
-const B_CHANGES: [u32; 16] = [
-    99, 0, 99, 0, // B: 0 0 0
-    39, 12, 99, 0, // E = 12: 21 7 0
-    30, 9, 99, 0, // receiver's piece 9 to 13: 20 7 0
-    42, 8, 99, 0, // queue 8: 40 7 0
+const B_CHANGES: [[u32; 4]; 4] = [
+    [99, 0, 99, 0], // B: 0 0 0
+    [39, 12, 99, 0], // E = 12: 21 7 0
+    [30, 9, 99, 0], // receiver's piece 9 to 13: 20 7 0
+    [42, 8, 99, 0], // queue 8: 40 7 0
 ];
 
 // The table of case A's lane 0.
@@ -83,66 +83,33 @@ fn put(image: &mut [u8], i: usize, word: u32)
 {
     let at = i * 4;
     if at + 4 <= image.len() {
-        image[at] = (word % 256) as u8;
-        image[at + 1] = (word / 256 % 256) as u8;
-        image[at + 2] = (word / 65536 % 256) as u8;
-        image[at + 3] = (word / 16777216) as u8;
+        image[at..at + 4].copy_from_slice(&word.to_le_bytes());
     }
 }
 
-// Writes case A with its k-th change.
-fn change_a(image: &mut [u8], k: usize)
-    requires { k < 15 }
+// Writes a case with a change.
+fn write_case(image: &mut [u8], words: &[u32], change: [u32; 4])
+    requires { length words.now < 1000 }
 {
-    let at = 4 * k;
-    let place = A_CHANGES[at];
-    let value = A_CHANGES[at + 1];
-    let second = A_CHANGES[at + 2];
-    let other = A_CHANGES[at + 3];
-    let mut i: usize = 0;
-    while i < 39 {
+    let [place, value, second, other] = change;
+    for i in 0..words.len() {
         put(
             image,
             i,
-            changed(CASE_A[i], i as u32, place, value, second, other),
+            changed(words[i], i as u32, place, value, second, other),
         );
-        i += 1;
     }
 }
 
-// Writes case B with its k-th change.
-fn change_b(image: &mut [u8], k: usize)
-    requires { k < 4 }
-{
-    let at = 4 * k;
-    let place = B_CHANGES[at];
-    let value = B_CHANGES[at + 1];
-    let second = B_CHANGES[at + 2];
-    let other = B_CHANGES[at + 3];
-    let mut i: usize = 0;
-    while i < 71 {
-        put(
-            image,
-            i,
-            changed(CASE_B[i], i as u32, place, value, second, other),
-        );
-        i += 1;
-    }
-}
-
-fn run_a(k: usize)
-    requires { k < 15 }
-{
+fn run_a(change: [u32; 4]) {
     let mut image = [0u8; 156];
-    change_a(&mut image, k);
+    write_case(&mut image, &CASE_A, change);
     print_answer(&image);
 }
 
-fn run_b(k: usize)
-    requires { k < 4 }
-{
+fn run_b(change: [u32; 4]) {
     let mut image = [0u8; 284];
-    change_b(&mut image, k);
+    write_case(&mut image, &CASE_B, change);
     print_answer(&image);
 }
 
@@ -168,17 +135,13 @@ fn run_step(cycle: u64) {
 }
 
 fn main() {
-    let mut a: usize = 0;
-    while a < 15 {
-        run_a(a);
-        a += 1;
+    for change in A_CHANGES {
+        run_a(change);
     }
     let empty = [0u8; 1];
     print_answer(&empty[..0]);
-    let mut b: usize = 0;
-    while b < 4 {
-        run_b(b);
-        b += 1;
+    for change in B_CHANGES {
+        run_b(change);
     }
     run_step(7);
     run_step(18446744073709551615);

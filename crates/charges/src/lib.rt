@@ -48,12 +48,10 @@ fn gather_after(image: &[u8], charges: &mut [u32], ends: &mut [u64])
     ensures { Charged image.now charges.new }
 {
     let windows = rows_of(image, Table::Windows);
-    let mut window: u32 = 0;
-    while window < windows {
+    for window in 0..windows {
         let vcpu = window_at(image, window).vcpu;
         charges[window as usize] = charge_after(image, window, ends[vcpu as usize]);
         raise(ends, vcpu, window_end(image, window));
-        window += 1;
     }
 }
 

@@ -4,7 +4,7 @@ use mathlib.Core.Path.{◌≡◌}
 use mathlib.Core.List.{List}
 use native.Mathlib.Omega.{arith}
 use lib.ListN.{length, get_or, set}
-use Rattle.plan.specs.declared.Found.TheVariants.{At, Nothing}
+use Rattle.std.specs.Prelude.{Some, None}
 use Rattle.plan.specs.declared.Table.TheVariants.{Cores, Vcpus, Tasks, Windows, Pieces, Links, Frames}
 use Rattle.plan.specs.Image.{rows, shape}
 use Rattle.plan.specs.Search.{Interval, first_no}
@@ -60,10 +60,10 @@ module _ (s : List ℕ) (h : Sound s) (o : Occupant) where
       pub place_inside : place_of s o r < length ends
       place_inside = Latest.place_inside (place_of s o) interval (clear_of s o) (rows s (table_for o)) most_places (λ r _. reads o r) near (place_most o) ends r l k
 
-      pub clash : first_no r (clear_of s o) ≡ Nothing → from_of s o r < get_or ends (place_of s o r) 0 → At r ≡ first_no (rows s (table_for o)) (clear_of s o)
+      pub clash : first_no r (clear_of s o) ≡ None → from_of s o r < get_or ends (place_of s o r) 0 → Some r ≡ first_no (rows s (table_for o)) (clear_of s o)
       clash = Latest.clash (place_of s o) interval (clear_of s o) (rows s (table_for o)) most_places (λ r _. reads o r) near (place_most o) ends r l k
 
-      pub clear_on : first_no r (clear_of s o) ≡ Nothing → get_or ends (place_of s o r) 0 ≤ from_of s o r → first_no (r + 1) (clear_of s o) ≡ Nothing
+      pub clear_on : first_no r (clear_of s o) ≡ None → get_or ends (place_of s o r) 0 ≤ from_of s o r → first_no (r + 1) (clear_of s o) ≡ None
       clear_on = Latest.clear_on (place_of s o) interval (clear_of s o) (rows s (table_for o)) most_places (λ r _. reads o r) near (place_most o) ends r l k
 
       pub ends_on : Kept (set ends (place_of s o r) (max (get_or ends (place_of s o r) 0) (to_of s o r))) 0 most_places (latest (place_of s o) (to_of s o) (r + 1))

@@ -12,30 +12,27 @@ ghost use Rattle.clashes.specs.Clashes.{clear_of, Lasting};
 ghost use Rattle.places.specs.Index.{most_places};
 
 use places::{Occupant, from_of, place_of, table_for, to_of};
-use plan::Found;
 use tables::rows_of;
 use tallies::raise;
 
 // The same, with a word for each place: the latest end there, 0 at first.
-fn clash_after(image: &[u8], occupant: Occupant, ends: &mut [u64]) -> Found
+fn clash_after(image: &[u8], occupant: Occupant, ends: &mut [u64]) -> Option<u32>
     requires { Sound image.now × (Lasting image.now occupant × Kept ends.old 0 most_places (λ _. 0)) }
     ensures { result ≡ first_no (rows image.now (table_for occupant)) (clear_of image.now occupant) }
 {
     let rows = rows_of(image, table_for(occupant));
-    let mut row: u32 = 0;
-    while row < rows {
+    for row in 0..rows {
         let place = place_of(image, occupant, row);
         if (from_of(image, occupant, row) as u64) < ends[place as usize] {
-            return Found::At(row);
+            return Some(row);
         }
         raise(ends, place, to_of(image, occupant, row));
-        row += 1;
     }
-    Found::Nothing
+    None
 }
 
 // The lowest row that shares a tick with a lower one of its place.
-pub fn first_clash(image: &[u8], occupant: Occupant) -> Found
+pub fn first_clash(image: &[u8], occupant: Occupant) -> Option<u32>
     requires { Sound image.now × Lasting image.now occupant }
     ensures { result ≡ first_no (rows image.now (table_for occupant)) (clear_of image.now occupant) }
 {

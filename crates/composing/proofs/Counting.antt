@@ -1,4 +1,5 @@
 -- Rows counted table by table.
+use Rattle.std.proofs.Common.{Some, None}
 use Prim.Native.Nat.{ℕ, suc, ◌+◌, ◌*◌, ◌≤◌, ◌<◌}
 use mathlib.Core.Path.{◌≡◌, refl, sym, ap, ◌∙◌, subst}
 use mathlib.Core.Bool.{Bool, true, false, ◌&&◌, true≢false}
@@ -12,8 +13,8 @@ use borrow.Author.Tests.{le-leb, lt-leb}
 use Rattle.plan.specs.declared.Table.{Table}
 use Rattle.plan.specs.declared.Table.TheVariants.{Cores}
 use Rattle.plan.specs.declared.Shape.{Shape}
-use Rattle.plan.specs.Image.{shape, tables}
-use Rattle.joins.specs.Joins.{rows_fit}
+use Rattle.plan.specs.Image.{shape, tables, trailer_bytes}
+use Rattle.joins.specs.Joins.{table_words, rows_fit}
 use Rattle.joins.proofs.Laying.{trailer_is}
 use Rattle.tables.specs.Tables.{table_count, table_at}
 use Rattle.tables.proofs.Shapes.{row_words}
@@ -94,17 +95,17 @@ module _ (rs : Table → List (List ℕ)) where
         (omega (arith, ap (λ (v : Shape). v.most) d ∙ ap (λ (u : Table). (shape u).most) e))
         (subst (λ (u : Table). length (flat_map (λ x. x) (rs u)) ≡ (shape u).width * n) e f)
 
-    pub turn_no : (counts : List ℕ) → i < table_count → n ≡ length (rs t) → sh.most < n → Counted rs counts 0
+    pub turn_no : (counts : List ℕ) → i < table_count → n ≡ length (rs t) → sh.most < n → Counted rs counts None
     turn_no counts l q k =
         record {
           fits = λ z. absurd (true≢false (sym z ∙ fit_no i l (omega (arith, q ∙ ap (λ (u : Table). length (rs u)) e, ap (λ (v : Shape). v.most) d ∙ ap (λ (u : Table). (shape u).most) e))));
           exceeds = λ _. refl;
         }
 
-  pub count_done : (counts : List ℕ) (bytes i : ℕ) → Counting counts bytes i → i ≡ table_count → Counted rs counts bytes
+  pub count_done : (counts : List ℕ) (bytes i : ℕ) → Counting counts bytes i → i ≡ table_count → Counted rs counts (Some bytes)
   count_done counts bytes i h e =
       record {
-        fits = λ _. (omega (arith, trailer_is, h.are, ap (λ (k : ℕ). length (words_to rs k)) e ∙ ap length (words_all rs)), subst (λ (k : ℕ). Kept counts 0 k (λ k. length (rs (table_at k)))) e h.kept);
+        fits = λ _. (let q : bytes ≡ trailer_bytes + 4 * length (table_words rs tables) = omega (arith, trailer_is, h.are, ap (λ (k : ℕ). length (words_to rs k)) e ∙ ap length (words_all rs)) in ap (λ (k : ℕ). Some k) q, subst (λ (k : ℕ). Kept counts 0 k (λ k. length (rs (table_at k)))) e h.kept);
         exceeds = λ q. absurd (true≢false (sym h.fit ∙ ap (λ (k : ℕ). rows_fit rs (take k tables)) e ∙ ap (rows_fit rs) all_tables ∙ q));
       }
 

@@ -31,26 +31,30 @@ fn rows_joined(first: &[u8], second: &[u8], shared: u32, streams: &[u32], table:
     pick(first, second, shared, streams, table, &mut picks)
 }
 
-// Counts the rows of each joined table, and gives the joined image's length; 0, where a table would have too many rows.
-fn count(first: &[u8], second: &[u8], shared: u32, streams: &[u32], counts: &mut [u32]) -> u32
+// Counts the rows of each joined table, and gives the joined image's length; none where a table would have too many rows.
+fn count(
+    first: &[u8],
+    second: &[u8],
+    shared: u32,
+    streams: &[u32],
+    counts: &mut [u32],
+) -> Option<u32>
     requires ready { Ready first.now second.now × Kept streams.now 0 (rows second.now Streams) (stream_at first.now second.now shared) }
     requires shared_bound { (shared ≤ rows second.now Tasks) × (length counts.old ≡ table_count) }
     ensures { Counted (joined_rows first.now second.now shared) counts.new result }
 {
     let mut bytes = tables::TRAILER_BYTES as u32;
-    let mut i: u32 = 0;
-    while i < tables::TABLES {
+    for i in 0..tables::TABLES {
         let table = table_at(i);
         let n = rows_joined(first, second, shared, streams, table);
         let shape = shape_of(table);
         if shape.most < n {
-            return 0;
+            return None;
         }
         counts[i as usize] = n;
         bytes += 4 * (shape.width * n);
-        i += 1;
     }
-    bytes
+    Some(bytes)
 }
 
 // Writes a row of both. Gives the byte after it.
@@ -70,15 +74,13 @@ fn put_row(
 {
     let width = shape_of(table).width;
     let mut place = at;
-    let mut j: u32 = 0;
-    while j < width {
+    for j in 0..width {
         put_word(
             joined,
             place,
             word_of(first, second, shared, streams, table, row, j),
         );
         place += 4;
-        j += 1;
     }
     place
 }
@@ -100,8 +102,7 @@ fn put_rows(
     ensures { Wrote joined.old at (flat_map (λ x. x) (picked_rows first.now second.now shared table picks.now n)) result joined.new }
 {
     let mut place = at;
-    let mut i: u32 = 0;
-    while i < n {
+    for i in 0..n {
         place = put_row(
             first,
             second,
@@ -112,7 +113,6 @@ fn put_rows(
             joined,
             place,
         );
-        i += 1;
     }
     place
 }
@@ -143,11 +143,9 @@ fn put_tables(first: &[u8], second: &[u8], shared: u32, streams: &[u32], joined:
     ensures { Wrote joined.old 0 (table_words (joined_rows first.now second.now shared) tables) result joined.new }
 {
     let mut place: usize = 0;
-    let mut i: u32 = 0;
-    while i < tables::TABLES {
+    for i in 0..tables::TABLES {
         let table = table_at(i);
         place = put_table(first, second, shared, streams, table, joined, place);
-        i += 1;
     }
     place
 }
@@ -160,14 +158,12 @@ fn put_layout(counts: &[u32], joined: &mut [u8], at: usize) -> usize
 {
     let mut from: u32 = 0;
     let mut place = at;
-    let mut i: u32 = 0;
-    while i < tables::TABLES {
+    for i in 0..tables::TABLES {
         let n = counts[i as usize];
         put_word(joined, place, from);
         put_word(joined, place + 4, n);
         from += 4 * (shape_of(table_at(i)).width * n);
         place += 8;
-        i += 1;
     }
     put_word(joined, place, from);
     place + 4
@@ -193,21 +189,18 @@ fn compose(
     put_layout(counts, joined, at + 8);
 }
 
-// Writes the joined image where row limits and the lent bytes suffice (37), and gives its length; else 0, and no byte is written.
-pub fn write(first: &[u8], second: &[u8], shared: u32, joined: &mut [u8]) -> u32
+// Writes the joined image where row limits and the lent bytes suffice (37), and gives its length; else none, and no byte is written.
+pub fn write(first: &[u8], second: &[u8], shared: u32, joined: &mut [u8]) -> Option<u32>
     requires { Ready first.now second.now × (shared ≤ rows second.now Tasks) }
     ensures { Written first.now second.now shared joined.old result joined.new }
 {
     let mut streams = [0u32; picking::STREAMS];
     place_streams(first, second, shared, &mut streams);
     let mut counts = [0u32; COUNTS];
-    let length = count(first, second, shared, &streams, &mut counts);
-    if length == 0 {
-        return 0;
-    }
+    let length = count(first, second, shared, &streams, &mut counts)?;
     if joined.len() < length as usize {
-        return 0;
+        return None;
     }
     compose(first, second, shared, &streams, &counts, joined);
-    length
+    Some(length)
 }

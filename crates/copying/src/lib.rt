@@ -43,10 +43,8 @@ fn copy_cores(image: &[u8], words: &mut [u32])
     ensures { words.new ≡ store_rows core_at (λ c. (Image.core image.now c).d ∷ []) (rows image.now Cores) words.old }
 {
     let cores = rows_of(image, Table::Cores);
-    let mut core: u32 = 0;
-    while core < cores {
+    for core in 0..cores {
         copy_core(image, words, core);
-        core += 1;
     }
 }
 
@@ -68,10 +66,8 @@ fn copy_tasks(image: &[u8], words: &mut [u32])
     ensures { words.new ≡ store_rows task_at (λ t. core_of image.now t ∷ (Image.task image.now t).period ∷ (Image.task image.now t).deadline ∷ []) (rows image.now Tasks) words.old }
 {
     let tasks = rows_of(image, Table::Tasks);
-    let mut task: u32 = 0;
-    while task < tasks {
+    for task in 0..tasks {
         copy_task(image, words, task);
-        task += 1;
     }
 }
 
@@ -104,10 +100,8 @@ fn copy_places(image: &[u8], words: &mut [u32])
     requires { Sound image.now × (draft_words ≤ length words.old) }
     ensures { words.new ≡ store_rows place_at (λ p. piece_words (made_piece image.now p)) places words.old }
 {
-    let mut place: u32 = 0;
-    while place < PLACES {
+    for place in 0..PLACES {
         copy_place(image, words, place);
-        place += 1;
     }
 }
 

@@ -53,11 +53,9 @@ pub fn rank_of(words: &[u32], piece: Piece) -> u32
     requires { draft_words ≤ length words.now }
     ensures { result ≡ rank words.now piece.task piece.job }
 {
-    let mut rank: u32 = 0;
-    let mut place: u32 = 0;
-    while place < PLACES {
+    let mut rank = 0;
+    for place in 0..PLACES {
         rank += part_at(words, place, piece);
-        place += 1;
     }
     rank
 }
@@ -82,10 +80,8 @@ pub fn count_all(words: &mut [u32], more: bool, piece: Piece)
     requires { (draft_words ≤ length words.old) × AllCountable more piece words.old }
     ensures { words.new ≡ store_rows (λ q. place_at q + 4) (counted more piece words.old) places words.old }
 {
-    let mut place: u32 = 0;
-    while place < PLACES {
+    for place in 0..PLACES {
         count_at(words, more, piece, place);
-        place += 1;
     }
 }
 

@@ -7,7 +7,7 @@ use native.Mathlib.Omega.{arith}
 use native.Mathlib.Decide.{dec_lt}
 use lib.Dec.{leb, ltb, eqb}
 use borrow.Author.Tests.{eqb-true, eq-eqb, ltb-true, leb-true, lt-ltb, le-leb}
-use Rattle.plan.specs.declared.Found.TheVariants.{Nothing}
+use Rattle.std.specs.Prelude.{None}
 use Rattle.plan.specs.Image.{rows, cycle_ticks}
 use Rattle.plan.specs.Search.{first}
 use Rattle.plan.specs.Held.{Sound}
@@ -18,7 +18,7 @@ use Rattle.places.specs.Places.{table_for, place_of, from_of, to_of, NextRow}
 use Rattle.cursors.specs.Taken.{covers, taken_by, Cursor, Current, TakenFrom, FreeFrom}
 use Rattle.cursors.proofs.Accepted.{begins_within, ends, rises}
 
-no_row : (test : ℕ → Bool) (n : ℕ) → ((i : ℕ) → i < n → test i ≡ true → ⊥) → first n test ≡ Nothing
+no_row : (test : ℕ → Bool) (n : ℕ) → ((i : ℕ) → i < n → test i ≡ true → ⊥) → first n test ≡ None
 unfolding first
 no_row test n h = (none_iff (λ i. not (test i)) n).1 (λ i l. go i l (test i) refl)
   where

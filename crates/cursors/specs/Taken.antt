@@ -1,20 +1,17 @@
 -- What takes up the ticks of a core or a link, where a walk looks for it, and what it finds.
 use Rattle.std.specs.Prelude.{ℕ, ◌≤◌, ◌<◌, ◌≡◌, Bool, ◌&&◌, List, leb, ltb, eqb}
-use Rattle.plan.specs.declared.Found.{Found}
-use Rattle.plan.specs.declared.Found.TheVariants.{At, Nothing}
+use Rattle.std.specs.Prelude.{Option, Result, Some, None, Ok, Err}
 use Rattle.plan.specs.Image.{rows, cycle_ticks}
 use Rattle.plan.specs.Search.{first}
 use Rattle.places.specs.declared.Occupant.{Occupant}
 use Rattle.places.specs.Places.{table_for, place_of, from_of, to_of}
-use Rattle.cursors.specs.declared.Near.{Near}
-use Rattle.cursors.specs.declared.Near.TheVariants.{Taken, Free}
 
 module _ (s : List ℕ) where
   -- does row i take up tick t of place c; the row that does. `piece_at`, `window_at` and `frame_at` are this, of each kind of row.
   unfoldable pub covers : Occupant → ℕ → ℕ → ℕ → Bool
   covers o c t i = eqb (place_of s o i) c && leb (from_of s o i) t && ltb t (to_of s o i)
 
-  unfoldable pub taken_by : Occupant → ℕ → ℕ → Found
+  unfoldable pub taken_by : Occupant → ℕ → ℕ → Option ℕ
   taken_by o c t = first (rows s (table_for o)) (covers o c t)
 
   -- where to look on at place c from tick t: at row r of the place, or there is none and r is the number of rows; those before it have ended
@@ -33,14 +30,14 @@ module _ (s : List ℕ) where
     pub row : i < rows s (table_for o)
     pub after : t < to_of s o i
     pub within : to_of s o i ≤ cycle_ticks s
-    pub only : (x : ℕ) → t ≤ x → x < to_of s o i → taken_by o c x ≡ At i
+    pub only : (x : ℕ) → t ≤ x → x < to_of s o i → taken_by o c x ≡ Some i
 
   -- no row takes up a tick of place c from t up to n
   pub record FreeFrom (o : Occupant) (c t n : ℕ) : Type 0 where
     pub after : t < n
     pub within : n ≤ cycle_ticks s
-    pub none : (x : ℕ) → t ≤ x → x < n → taken_by o c x ≡ Nothing
+    pub none : (x : ℕ) → t ≤ x → x < n → taken_by o c x ≡ None
 
-  abbrev pub Nearest : Occupant → ℕ → ℕ → Near → Type 0
-  Nearest o c t (Taken i) = TakenFrom o c t i
-  Nearest o c t (Free n) = FreeFrom o c t n
+  abbrev pub Nearest : Occupant → ℕ → ℕ → Result ℕ ℕ → Type 0
+  Nearest o c t (Ok i) = TakenFrom o c t i
+  Nearest o c t (Err n) = FreeFrom o c t n

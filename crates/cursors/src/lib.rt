@@ -67,24 +67,23 @@ pub fn move_on(
     at
 }
 
-// The row that takes up a tick of a place, or a tick up to which none does.
-#[derive(Clone, Copy)]
-pub enum Near {
-    Taken(u32),
-    Free(u32),
-}
-
-// Which it is, by the place's first row that has not ended.
-pub fn nearest(image: &[u8], occupant: Occupant, place: u32, tick: u32, row: u32) -> Near
+// The row that takes up a tick of a place, or, as an error, a tick up to which none does: by the place's first row that has not ended.
+pub fn nearest(
+    image: &[u8],
+    occupant: Occupant,
+    place: u32,
+    tick: u32,
+    row: u32,
+) -> Result<u32, u32>
     requires { (answer_of image.now ≡ accepted) × ((tick < cycle_ticks image.now) × Current image.now occupant place tick row) }
     ensures { Nearest image.now occupant place tick result }
 {
     if row < rows_of(image, table_for(occupant)) {
         let from = from_of(image, occupant, row);
         if from <= tick {
-            return Near::Taken(row);
+            return Ok(row);
         }
-        return Near::Free(from);
+        return Err(from);
     }
-    Near::Free(cycle_ticks(image))
+    Err(cycle_ticks(image))
 }

@@ -8,8 +8,8 @@ use native.Mathlib.Decide.{ℕ_discrete}
 use lib.ListN.{length, take, drop, take-append-drop}
 use lib.Dec.{leb}
 use Rattle.plan.specs.declared.Answer.{Answer}
-use Rattle.plan.specs.declared.Found.{Found}
-use Rattle.plan.specs.declared.Found.TheVariants.{At, Nothing}
+use Rattle.std.specs.Prelude.{Option}
+use Rattle.std.specs.Prelude.{Some, None}
 use Rattle.plan.specs.declared.Table.{Table}
 use Rattle.plan.specs.declared.Table.TheVariants.{Streams}
 use Rattle.plan.specs.Image.{tables}
@@ -41,10 +41,10 @@ unfolding answer_to named
 answer_numbered b [] g = inl refl
 answer_numbered b (q ∷ qs) g = go (first_no q.many q.ok) refl (answer_numbered b qs g.1)
   where
-    go : (f : Found) → first_no q.many q.ok ≡ f → ((answer_to qs).number ≡ 0) ⊎ (is_early (answer_to qs).number ≡ b)
+    go : (f : Option ℕ) → first_no q.many q.ok ≡ f → ((answer_to qs).number ≡ 0) ⊎ (is_early (answer_to qs).number ≡ b)
         → ((answer_to (q ∷ qs)).number ≡ 0) ⊎ (is_early (answer_to (q ∷ qs)).number ≡ b)
-    go Nothing e h = rw (no_row q qs e) h
-    go (At r) e h = inr (rw (a_row q qs r e) g.0)
+    go None e h = rw (no_row q qs e) h
+    go (Some r) e h = inr (rw (a_row q qs r e) g.0)
 
 number_of_holds : {a b : Answer} → a ≡ b → a.number ≡ b.number
 number_of_holds e = ap (λ (x : Answer). x.number) e
@@ -154,9 +154,9 @@ module _ (s : List ℕ) where
       q : Question
       q = each s 40 Streams (queue_fits s)
 
-      go : (f : Found) → first_no q.many q.ok ≡ f → (answer_to (queue_questions s)).number ≡ 40
-      go Nothing e = absurd (h (number_of_holds (no_row q [] e)))
-      go (At r) e = number_of_holds (a_row q [] r e)
+      go : (f : Option ℕ) → first_no q.many q.ok ≡ f → (answer_to (queue_questions s)).number ≡ 40
+      go None e = absurd (h (number_of_holds (no_row q [] e)))
+      go (Some r) e = number_of_holds (a_row q [] r e)
 
   past_first : (answer_to first).number ≡ 0 → answer_of s ≡ answer_to (queue_questions s ++ (four ++ late))
   past_first e = checked ∙ then_asked first (queue_questions s ++ (four ++ late)) real_first e

@@ -14,7 +14,7 @@ use borrow.Author.Tests.{leb-true, ltb-true, lt-ltb, le-ltb}
 use Rattle.plan.specs.declared.Piece.{Piece}
 use Rattle.plan.specs.declared.Table.TheVariants.{Cores, Vcpus, Tasks, Pieces}
 use Rattle.plan.specs.Search.{first_no}
-use Rattle.plan.specs.declared.Found.TheVariants.{Nothing}
+use Rattle.std.specs.Prelude.{None}
 use Rattle.plan.specs.Image.{cycle_ticks, rows, core, task, piece, shape}
 use Rattle.plan.specs.Questions.{Question, whole, each, question_at, image_questions, row_questions, piece_questions, core_of, jobs, release, due, switch_ticks, piece_end}
 use Rattle.plan.specs.Held.{Sound, Passed}
@@ -46,7 +46,7 @@ real_four s = omega arith
 
 four_passed : (s : List ℕ) → Passed (take 4 (piece_questions s)) (length (take 4 (piece_questions s))) → Passed (piece_questions s) 4
 unfolding piece_questions question_at
-four_passed s h j l = subst (λ (q : Question). first_no q.many q.ok ≡ Nothing) (get_or-take 4 (piece_questions s) j (whole 0 true) l) (h j l)
+four_passed s h j l = subst (λ (q : Question). first_no q.many q.ok ≡ None) (get_or-take 4 (piece_questions s) j (whole 0 true) l) (h j l)
 
 pub record Shown (s w : List ℕ) : Type 0 where
   pub sound : Sound s

@@ -7,8 +7,8 @@ use native.Mathlib.Omega.{arith}
 use lib.Dec.{eqb}
 use borrow.Author.Tests.{eqb-true, not-true, not-false}
 use Rattle.plan.specs.declared.Piece.{Piece}
-use Rattle.plan.specs.declared.Found.{Found}
-use Rattle.plan.specs.declared.Found.TheVariants.{At, Nothing}
+use Rattle.std.specs.Prelude.{Option}
+use Rattle.std.specs.Prelude.{Some, None}
 use Rattle.plan.specs.Search.{sum, first}
 use Rattle.plan.proofs.Searching.{and_true, none_iff, at_iff}
 use Rattle.drafts.specs.Drafts.{places, is_of, piece_at, total_at, is_free, job_sum, is_draft}
@@ -25,11 +25,11 @@ module _ (w : List ℕ) where
   abbrev pub test : ℕ → ℕ → ℕ → Bool
   test t j p = not (is_free w p) && is_of t j (piece_at w p)
 
-  pub stored_at : (t j p : ℕ) → first places (test t j) ≡ At p → stored_total w t j ≡ total_at w p
+  pub stored_at : (t j p : ℕ) → first places (test t j) ≡ Some p → stored_total w t j ≡ total_at w p
   unfolding stored_total
   stored_at t j p e = rw (e, stored_total) refl
 
-  pub stored_none : (t j : ℕ) → first places (test t j) ≡ Nothing → stored_total w t j ≡ 0
+  pub stored_none : (t j : ℕ) → first places (test t j) ≡ None → stored_total w t j ≡ 0
   unfolding stored_total
   stored_none t j e = rw (e, stored_total) refl
 
@@ -56,6 +56,6 @@ module _ (w : List ℕ) (d : is_draft w ≡ true) where
           let a = and_true (not (is_free w p)) (is_of t j (piece_at w p)) e in let b = of_job_holds t j (piece_at w p) a.1 in
           (true_place w d p l (not-true (is_free w p) a.0)).3 ∙ (rw (b.0, b.1) refl)
 
-      go : (r : Found) → first places (test w t j) ≡ r → stored_total w t j ≡ job_sum w t j
-      go (At p) e = let a = (at_iff (λ i. not (test w t j i)) places p).0 e in stored_at w t j p e ∙ at_place p a.below (not-false _ a.says_no)
-      go Nothing e = stored_none w t j e ∙ sym (no_piece t j (λ p l. not-true _ ((none_iff (λ i. not (test w t j i)) places).0 e p l)))
+      go : (r : Option ℕ) → first places (test w t j) ≡ r → stored_total w t j ≡ job_sum w t j
+      go (Some p) e = let a = (at_iff (λ i. not (test w t j i)) places p).0 e in stored_at w t j p e ∙ at_place p a.below (not-false _ a.says_no)
+      go None e = stored_none w t j e ∙ sym (no_piece t j (λ p l. not-true _ ((none_iff (λ i. not (test w t j i)) places).0 e p l)))

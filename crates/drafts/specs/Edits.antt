@@ -4,7 +4,7 @@ use Rattle.std.specs.Prelude.{ℕ, zero, suc, ◌+◌, not, ◌&&◌, cond, List
 use Rattle.std.proofs.lemmas.List.Edits.{sets}
 use Rattle.plan.specs.declared.Piece.{Piece}
 use Rattle.plan.specs.declared.Table.TheVariants.{Cores, Tasks, Pieces}
-use Rattle.plan.specs.declared.Found.TheVariants.{At, Nothing}
+use Rattle.std.specs.Prelude.{Some, None}
 use Rattle.plan.specs.Search.{first}
 use Rattle.plan.specs.Image.{cycle_ticks, rows, core, task, piece}
 use Rattle.plan.specs.Questions.{Question, whole, image_questions, row_questions, piece_questions, answer_to, core_of}
@@ -116,7 +116,7 @@ module _ (w : List ℕ) where
   job_number t k = number_of (whole 33 (is_draft w) ∷ whole 5 (ltb t (draft_tasks w)) ∷ whole 10 (ltb k (task_jobs w t)) ∷ [])
 
   unfoldable pub stored_total : ℕ → ℕ → ℕ
-  stored_total t k = elim (first places (λ p. not (is_free w p) && is_of t k (piece_at w p))) [ At p ↦ total_at w p | Nothing ↦ 0 ]
+  stored_total t k = elim (first places (λ p. not (is_free w p) && is_of t k (piece_at w p))) [ Some p ↦ total_at w p | None ↦ 0 ]
 
   unfoldable pub job_value : ℕ → ℕ → ℕ
   job_value t k = gives (job_number t k) (stored_total t k)

@@ -10,8 +10,8 @@ use native.Mathlib.Decide.{dec_lt}
 use native.Mathlib.Omega.{arith}
 use lib.Dec.{ltb, eqb}
 use borrow.Author.Tests.{eqb-true, lt-ltb, le-ltb}
-use Rattle.plan.specs.declared.Found.{Found}
-use Rattle.plan.specs.declared.Found.TheVariants.{At, Nothing}
+use Rattle.std.specs.Prelude.{Option}
+use Rattle.std.specs.Prelude.{Some, None}
 use Rattle.plan.specs.declared.Table.TheVariants.{Streams, Frames}
 use Rattle.plan.specs.Image.{rows, stream, most_frames}
 use Rattle.plan.specs.Search.{first_no, all, sum, count}
@@ -43,13 +43,13 @@ module _ (a b : ℕ → Bool) where
   first_agree zero h = refl
   first_agree (suc n) h = go (first_no n b) refl (first_agree n (λ i l. h i (omega arith)))
     where
-      last : (x : Bool) → b n ≡ x → first_no n b ≡ Nothing → first_no n a ≡ Nothing → a n ≡ b n → first_no (suc n) a ≡ first_no (suc n) b
+      last : (x : Bool) → b n ≡ x → first_no n b ≡ None → first_no n a ≡ None → a n ≡ b n → first_no (suc n) a ≡ first_no (suc n) b
       last true d e k q = turn_yes a n k (q ∙ d) ∙ sym (turn_yes b n e d)
       last false d e k q = turn_no a n k (q ∙ d) ∙ sym (turn_no b n e d)
 
-      go : (x : Found) → first_no n b ≡ x → first_no n a ≡ first_no n b → first_no (suc n) a ≡ first_no (suc n) b
-      go (At i) e k = stays a n i (k ∙ e) ∙ sym (stays b n i e)
-      go Nothing e k = last (b n) refl e (k ∙ e) (h n (omega arith) ((none_iff b n).0 e))
+      go : (x : Option ℕ) → first_no n b ≡ x → first_no n a ≡ first_no n b → first_no (suc n) a ≡ first_no (suc n) b
+      go (Some i) e k = stays a n i (k ∙ e) ∙ sym (stays b n i e)
+      go None e k = last (b n) refl e (k ∙ e) (h n (omega arith) ((none_iff b n).0 e))
 
 module _ (s : List ℕ) where
   -- has a hop exactly one frame

@@ -7,8 +7,8 @@ use native.Mathlib.Omega.{arith}
 use lib.Dec.{eqb}
 use lib.ListN.{get_or}
 use borrow.Author.Tests.{eqb-true, eq-eqb, lt-ltb, le-ltb}
-use Rattle.plan.specs.declared.Found.{Found}
-use Rattle.plan.specs.declared.Found.TheVariants.{At, Nothing}
+use Rattle.std.specs.Prelude.{Option}
+use Rattle.std.specs.Prelude.{Some, None}
 use Rattle.plan.specs.declared.Table.TheVariants.{Streams, Frames}
 use Rattle.plan.specs.Image.{rows, stream, frame, most_frames}
 use Rattle.plan.specs.Search.{first_no, first, sum, count}
@@ -85,9 +85,9 @@ module _ (s : List ℕ) where
       unfolding frame_of first
       lowest_is = go (first_no (rows s Frames) other) refl
         where
-          go : (x : Found) → first_no (rows s Frames) other ≡ x → the_one.0 ≡ frame_of s m k h
-          go Nothing q = absurd (true≢false (sym ((none_iff other (rows s Frames)).0 q the_one.0 the_one.1.0) ∙ ap not the_one.1.1))
-          go (At i) q = let w = (at_iff other (rows s Frames) i).0 q in rw (q, frame_of) (sym (the_one.2 i (w.below, yes_of _ w.says_no)))
+          go : (x : Option ℕ) → first_no (rows s Frames) other ≡ x → the_one.0 ≡ frame_of s m k h
+          go None q = absurd (true≢false (sym ((none_iff other (rows s Frames)).0 q the_one.0 the_one.1.0) ∙ ap not the_one.1.1))
+          go (Some i) q = let w = (at_iff other (rows s Frames) i).0 q in rw (q, frame_of) (sym (the_one.2 i (w.below, yes_of _ w.says_no)))
 
       -- a frame of the hop is it
       pub frame_own : (f : ℕ) → f < rows s Frames → of_hop s m k h f ≡ true → frame_of s m k h ≡ f

@@ -11,7 +11,7 @@ ghost use Rattle.plan.specs.Held.{Sound, Passed, refusing};
 ghost use Rattle.tallies.specs.Tallies.{Kept};
 ghost use Rattle.frames.specs.Index.{span, place, begins, Taken, Indexed, taken_at, JobOf, once_at, once_each, Framed, counts_at, frame_words};
 
-use plan::{Found, Frame, Stream, Table};
+use plan::{Frame, Stream, Table};
 use tables::{frame_at, rows_of, stream_at};
 use terms::jobs_of;
 
@@ -29,11 +29,7 @@ const PLACES: usize = Frame::MAX as usize;
 fn capped(place: u64) -> u32
     ensures { result ≡ min most_frames place }
 {
-    if place < PLACES as u64 {
-        place as u32
-    } else {
-        Frame::MAX
-    }
+    place.min(PLACES as u64) as u32
 }
 
 // How many places a stream has: one for each hop of each of its jobs.
@@ -52,11 +48,9 @@ fn place_streams(image: &[u8], index: &mut [u32])
 {
     let streams = rows_of(image, Table::Streams);
     let mut place: u32 = 0;
-    let mut stream: u32 = 0;
-    while stream < streams {
+    for stream in 0..streams {
         index[stream as usize] = place;
         place = capped(place as u64 + span_of(image, stream) as u64);
-        stream += 1;
     }
 }
 
@@ -99,10 +93,8 @@ fn take_all(image: &[u8], index: &mut [u32])
     ensures { Indexed image.now index.new }
 {
     let frames = rows_of(image, Table::Frames);
-    let mut frame: u32 = 0;
-    while frame < frames {
+    for frame in 0..frames {
         take_in(image, index, frame);
-        frame += 1;
     }
 }
 
@@ -136,14 +128,7 @@ fn one_frame(image: &[u8], index: &[u32], stream: u32, job: u32) -> bool
     ensures { result ≡ once_each image.now stream job }
 {
     let hops = stream_at(image, stream).hops;
-    let mut hop: u32 = 0;
-    while hop < hops {
-        if !has_one(image, index, stream, job, hop) {
-            return false;
-        }
-        hop += 1;
-    }
-    true
+    searching::all(hops, |hop| has_one(image, index, stream, job, hop))
 }
 
 // 16: each job of a stream? The search ends at the first place that is not kept, however many jobs there are.
@@ -153,30 +138,16 @@ fn each_framed(image: &[u8], index: &[u32], stream: u32) -> bool
     ensures { result ≡ each_job image.now (once_each image.now) stream }
 {
     let jobs = jobs_of(image, stream_at(image, stream).sender);
-    let mut job: u32 = 0;
-    while job < jobs {
-        if !one_frame(image, index, stream, job) {
-            return false;
-        }
-        job += 1;
-    }
-    true
+    searching::all(jobs, |job| one_frame(image, index, stream, job))
 }
 
 // 16: the lowest stream with a job that has not exactly one frame for each hop.
-pub fn first_unframed(image: &[u8], index: &[u32]) -> Found
+pub fn first_unframed(image: &[u8], index: &[u32]) -> Option<u32>
     requires { Sound image.now × (Passed (stream_questions image.now) 2 × Indexed image.now index.now) }
     ensures { result ≡ refusing (question_at (stream_questions image.now) 2) }
 {
     let streams = rows_of(image, Table::Streams);
-    let mut stream: u32 = 0;
-    while stream < streams {
-        if !each_framed(image, index, stream) {
-            return Found::At(stream);
-        }
-        stream += 1;
-    }
-    Found::Nothing
+    searching::first_no(streams, |stream| each_framed(image, index, stream))
 }
 
 // The frame of a stream's job at a hop, where question 16 is passed.

@@ -11,8 +11,8 @@ use lib.ListN.{length}
 use lib.Dec.{ltb, eqb}
 use borrow.Author.Tests.{eqb-true, eqb-false, eq-eqb, ne_eqb, lt-ltb, le-ltb}
 use Rattle.plan.specs.declared.Table.TheVariants.{Cores, Frames}
-use Rattle.plan.specs.declared.Found.{Found}
-use Rattle.plan.specs.declared.Found.TheVariants.{At, Nothing}
+use Rattle.std.specs.Prelude.{Option}
+use Rattle.std.specs.Prelude.{Some, None}
 use Rattle.plan.specs.Image.{cycle_ticks, rows}
 use Rattle.plan.specs.Questions.{answer_of, accepted, queue_of}
 use Rattle.plan.specs.Dispatch.{show, frame_at, on_link, shown_at}
@@ -144,9 +144,9 @@ module _ (s : List ℕ) (f : Facts s) (k : QueueFacts s) where
   unfolding on_link frame_at show
   link_row l t = go (frame_at s l t) refl
     where
-      go : (d : Found) → frame_at s l t ≡ d → (on_link s l t).kind ≡ 5 → (on_link s l t).row < rows s Frames
-      go (At i) e k = rw (e, on_link) (first_at _ (rows s Frames) i e).0
-      go Nothing e k = absurd (let z : ◌≡◌ {A = ℕ} 0 5 = rw (e, on_link) at k in omega arith)
+      go : (d : Option ℕ) → frame_at s l t ≡ d → (on_link s l t).kind ≡ 5 → (on_link s l t).row < rows s Frames
+      go (Some i) e k = rw (e, on_link) (first_at _ (rows s Frames) i e).0
+      go None e k = absurd (let z : ◌≡◌ {A = ℕ} 0 5 = rw (e, on_link) at k in omega arith)
 
   queue_most : (l t : ℕ) → (shown_at s (rows s Cores + l) t).kind ≡ 5 → queue_of s (shown_at s (rows s Cores + l) t).row ≤ 7
   unfolding queue_of

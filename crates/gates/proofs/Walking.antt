@@ -6,8 +6,8 @@ use mathlib.Core.List.{List, ◌∷◌, ◌++◌, [], append_assoc}
 use native.Mathlib.Omega.{arith}
 use native.Mathlib.Decide.{ℕ_discrete, dec_lt}
 use lib.ListN.{length, length-append}
-use Rattle.plan.specs.declared.Found.{Found}
-use Rattle.plan.specs.declared.Found.TheVariants.{At, Nothing}
+use Rattle.std.specs.Prelude.{Option}
+use Rattle.std.specs.Prelude.{Some, None}
 use Rattle.plan.specs.declared.Table.TheVariants.{Cores, Frames}
 use Rattle.plan.specs.Image.{cycle_ticks, rows, shape, frame}
 use Rattle.plan.specs.Questions.{answer_of, accepted, frame_end, frame_interval, queue_of}
@@ -120,9 +120,9 @@ module _ (s : List ℕ) (e : answer_of s ≡ accepted) (l : ℕ) where
   unfolding octet_at octet_of frame_at show
   idle_at x no_frame = go (frame_at s l x) refl
     where
-      go : (d : Found) → frame_at s l x ≡ d → octet_at s l x ≡ 0
-      go (At i) q = absurd (no_frame i (found_covers (rows s Frames) (λ i. (frame s i).link) (λ i. (frame s i).start) (frame_end s) l x i q))
-      go Nothing q = rw (lane_is x, link_idle s l x q) refl
+      go : (d : Option ℕ) → frame_at s l x ≡ d → octet_at s l x ≡ 0
+      go (Some i) q = absurd (no_frame i (found_covers (rows s Frames) (λ i. (frame s i).link) (λ i. (frame s i).start) (frame_end s) l x i q))
+      go None q = rw (lane_is x, link_idle s l x q) refl
 
   pub past_none : Past s l 0 0
   past_none = record { behind = λ i k. absurd (omega arith); ahead = λ i k m q. omega arith }

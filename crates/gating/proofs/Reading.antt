@@ -49,7 +49,7 @@ module _ (s : List ℕ) (l : ℕ) (words : List ℕ) (e : (gate_answer s l words
       go zero q = accepted_of s q
       go (suc n) q =
           let h : (answer_of s).number ≢ 0 = λ z. absurd (omega arith) in
-          absurd (h (number_of_holds ((list_refused s l (length words) [] [] h).answer words refl) ∙ e))
+          absurd (h (number_of_holds ((list_refused s l (length words) h).answer words refl) ∙ e))
 
   listed_fits : length (gate_words s l) ≤ length words
   listed_fits = go (dec_lt l (rows s Links)) (dec_lt (length words) (1 + 2 * length (gates s l)))
@@ -58,9 +58,9 @@ module _ (s : List ℕ) (l : ℕ) (words : List ℕ) (e : (gate_answer s l words
       a = listed_accepted
 
       go : Dec (l < rows s Links) → Dec (length words < 1 + 2 * length (gates s l)) → length (gate_words s l) ≤ length words
-      go (yes m) (yes h) = absurd (omega (arith, number_of_holds ((list_short s l (length words) [] [] a m h).answer words refl) ∙ e))
+      go (yes m) (yes h) = absurd (omega (arith, number_of_holds ((list_short s l (length words) a m h).answer words refl) ∙ e))
       go (yes m) (no h) = omega (arith, gate-words-length s l)
-      go (no m) d = absurd (omega (arith, number_of_holds ((list_no_link s l (length words) [] [] a (omega arith)).answer words refl) ∙ e))
+      go (no m) d = absurd (omega (arith, number_of_holds ((list_no_link s l (length words) a (omega arith)).answer words refl) ∙ e))
 
   listed_is : gated s l words ≡ gate_words s l ++ drop (length (gate_words s l)) words
   unfolding gated

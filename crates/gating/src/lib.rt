@@ -15,23 +15,20 @@ use plan::{Answer, Table, refused};
 use tables::rows_of;
 use words::put_word;
 
-// Asks the check's questions, then 25 of the link, and 42 of so many lent words; finds the list.
-fn list_gates(image: &[u8], link: u32, list: &mut [u32], lent: usize) -> Answer
+// Asks the check's questions, then 25 of the link, and 42 of so many lent words; finds the list. Gives how many gates there are.
+fn list_gates(image: &[u8], link: u32, list: &mut [u32], lent: usize) -> Result<u32, Answer>
     requires { length list.old ≡ list_words }
     ensures { Listed image.now link lent list.old result list.new }
 {
-    let answer = questions::check(image);
-    if answer.number != 0 {
-        return answer;
-    }
+    questions::ask(image)?;
     if rows_of(image, Table::Links) <= link {
-        return refused(25);
+        return Err(refused(25));
     }
     let count = find(image, link, list);
     if lent < 1 + 2 * count as usize {
-        return refused(42);
+        return Err(refused(42));
     }
-    plan::accepted()
+    Ok(count)
 }
 
 // Copies so many words.
@@ -39,11 +36,7 @@ fn copy(list: &[u32], many: usize, words: &mut [u32])
     requires { (many ≤ length list.now) × (many ≤ length words.old) }
     ensures { words.new ≡ sets words.old 0 (take many list.now) }
 {
-    let mut i: usize = 0;
-    while i < many {
-        words[i] = list[i];
-        i += 1;
-    }
+    words[..many].copy_from_slice(&list[..many]);
 }
 
 // The same into bytes.
@@ -51,10 +44,8 @@ fn copy_bytes(list: &[u32], many: usize, bytes: &mut [u8])
     requires { (many ≤ length list.now) × (4 * many ≤ length bytes.old) }
     ensures { bytes.new ≡ stored bytes.old 0 (take many list.now) }
 {
-    let mut i: usize = 0;
-    while i < many {
+    for i in 0..many {
         put_word(bytes, 4 * i, list[i]);
-        i += 1;
     }
 }
 
@@ -65,13 +56,13 @@ pub fn fill(image: &[u8], link: u32, words: &mut [u32]) -> Answer
 {
     let mut list = [0u32; WORDS];
     let lent = words.len();
-    let answer = list_gates(image, link, &mut list, lent);
-    if answer.number != 0 {
-        return answer;
+    match list_gates(image, link, &mut list, lent) {
+        Ok(count) => {
+            copy(&list, 1 + 2 * count as usize, words);
+            plan::accepted()
+        }
+        Err(no) => no,
     }
-    let count = list[0];
-    copy(&list, 1 + 2 * count as usize, words);
-    answer
 }
 
 // The same into lent bytes, four to a word. A part of a word at the end does not count.
@@ -80,11 +71,11 @@ pub fn store(image: &[u8], link: u32, bytes: &mut [u8]) -> Answer
 {
     let mut list = [0u32; WORDS];
     let lent = bytes.len() / 4;
-    let answer = list_gates(image, link, &mut list, lent);
-    if answer.number != 0 {
-        return answer;
+    match list_gates(image, link, &mut list, lent) {
+        Ok(count) => {
+            copy_bytes(&list, 1 + 2 * count as usize, bytes);
+            plan::accepted()
+        }
+        Err(no) => no,
     }
-    let count = list[0];
-    copy_bytes(&list, 1 + 2 * count as usize, bytes);
-    answer
 }

@@ -10,8 +10,8 @@ use borrow.Author.Tests.{eqb-true, eq-eqb, ne_eqb}
 use Rattle.plan.specs.declared.Table.TheVariants.{Vcpus, Tasks, Windows, Pieces}
 use Rattle.plan.specs.declared.Piece.{Piece}
 use Rattle.plan.specs.declared.Window.{Window}
-use Rattle.plan.specs.declared.Found.{Found}
-use Rattle.plan.specs.declared.Found.TheVariants.{At, Nothing}
+use Rattle.std.specs.Prelude.{Option}
+use Rattle.std.specs.Prelude.{Some, None}
 use Rattle.plan.specs.Image.{rows, core, vcpu, task, window, piece}
 use Rattle.plan.specs.Search.{any}
 use Rattle.plan.specs.Questions.{core_of, window_core, window_end, keeps_from, keeps_core, charge, piece_core, piece_end, switch_ticks}
@@ -84,11 +84,11 @@ module _ (s t : List ℕ) (f : Facts s) (g : Facts t) (u : ℕ) (a : HasWindows 
   -- the window found in s is found in t
   pub record There (c x w : ℕ) : Type 0 where
     pub y : ℕ
-    pub at : window_at t c x ≡ At y
+    pub at : window_at t c x ≡ Some y
     pub same : window t y ≡ window s w
     pub charged : charge t y ≡ charge s w
 
-  pub window_there : (c x w : ℕ) → window_at s c x ≡ At w → (window s w).vcpu ≡ u → There c x w
+  pub window_there : (c x w : ℕ) → window_at s c x ≡ Some w → (window s w).vcpu ≡ u → There c x w
   window_there c x w e o =
       let h = window_at_holds s f c x w e in
       let z = a.windows w h.row o in
@@ -108,7 +108,7 @@ module _ (s t : List ℕ) (f : Facts s) (g : Facts t) (u : ℕ) (a : HasWindows 
 -- ---- pieces
 
 -- a piece of VCPU u that s shows, t shows too
-module _ (s t : List ℕ) (f : Facts s) (g : Facts t) (u : ℕ) (a : HasGuest s t u) (c x i : ℕ) (p : piece_at s c x ≡ At i) (o : (task s (piece s i).task).vcpu ≡ u) where
+module _ (s t : List ℕ) (f : Facts s) (g : Facts t) (u : ℕ) (a : HasGuest s t u) (c x i : ℕ) (p : piece_at s c x ≡ Some i) (o : (task s (piece s i).task).vcpu ≡ u) where
   inside : Inside s f c x i
   inside = piece_at_holds s f c x i p
 
@@ -131,7 +131,7 @@ module _ (s t : List ℕ) (f : Facts s) (g : Facts t) (u : ℕ) (a : HasGuest s 
   abbrev stands : (j : ℕ) × (j < rows t Pieces) × (piece t j ≡ piece s i)
   stands = a.pieces i inside.row o
 
-  pub piece_there : (j : ℕ) × (piece_at t c x ≡ At j) × (sight_of s (on_core s c x) ≡ sight_of t (on_core t c x))
+  pub piece_there : (j : ℕ) × (piece_at t c x ≡ Some j) × (sight_of s (on_core s c x) ≡ sight_of t (on_core t c x))
   unfolding piece_core piece_end
   piece_there =
       let z = stands in
@@ -146,7 +146,7 @@ module _ (s t : List ℕ) (f : Facts s) (g : Facts t) (u : ℕ) (a : HasGuest s 
 
 -- ---- so what is shown in a window of VCPU u
 
-module _ (s t : List ℕ) (f : Facts s) (g : Facts t) (u : ℕ) (a : HasGuest s t u) (b : HasGuest t s u) (c x w : ℕ) (e : window_at s c x ≡ At w) (o : (window s w).vcpu ≡ u) where
+module _ (s t : List ℕ) (f : Facts s) (g : Facts t) (u : ℕ) (a : HasGuest s t u) (b : HasGuest t s u) (c x w : ℕ) (e : window_at s c x ≡ Some w) (o : (window s w).vcpu ≡ u) where
   pub there : There s t f g u (guest_windows a) (guest_windows b) c x w
   there = window_there s t f g u (guest_windows a) (guest_windows b) c x w e o
 
@@ -161,10 +161,10 @@ module _ (s t : List ℕ) (f : Facts s) (g : Facts t) (u : ℕ) (a : HasGuest s 
   pub shown_there : Same
   shown_there = go (piece_at s c x) (piece_at t c x) refl refl
     where
-      go : (d r : Found) → piece_at s c x ≡ d → piece_at t c x ≡ r → Same
-      go (At i) r p q = inl (piece_there s t f g u a c x i p (owner s f c x w e i p ∙ o)).2
-      go Nothing (At j) p q = absurd (not_both (piece_there t s g f u b c x j q (owner t g c x there.y there.at j q ∙ owner_there)).1 p)
-      go Nothing Nothing p q =
+      go : (d r : Option ℕ) → piece_at s c x ≡ d → piece_at t c x ≡ r → Same
+      go (Some i) r p q = inl (piece_there s t f g u a c x i p (owner s f c x w e i p ∙ o)).2
+      go None (Some j) p q = absurd (not_both (piece_there t s g f u b c x j q (owner t g c x there.y there.at j q ∙ owner_there)).1 p)
+      go None None p q =
           inr (
             cond (ltb x ((window s w).start + charge s w)) 1 2,
             window_seen s c x w p e ∙ rw o refl,

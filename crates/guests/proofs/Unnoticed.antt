@@ -14,8 +14,8 @@ use Rattle.plan.specs.declared.Table.TheVariants.{Cores, Vcpus}
 use Rattle.plan.specs.declared.Core.{Core}
 use Rattle.plan.specs.declared.Vcpu.{Vcpu}
 use Rattle.plan.specs.declared.Window.{Window}
-use Rattle.plan.specs.declared.Found.{Found}
-use Rattle.plan.specs.declared.Found.TheVariants.{At, Nothing}
+use Rattle.std.specs.Prelude.{Option}
+use Rattle.std.specs.Prelude.{Some, None}
 use Rattle.plan.specs.Image.{rows, cycle_ticks, precision, core, vcpu, window}
 use Rattle.plan.specs.Questions.{charge}
 use Rattle.plan.specs.Dispatch.{Shown, lanes, window_at, on_core}
@@ -60,11 +60,11 @@ module _ (s t : List ℕ) (v : ℕ) (h : Alike s t v) (c x : ℕ) where
   g = facts t h.changed
 
   -- where s has a window, t has it, in the same row
-  module _ (w : ℕ) (e : window_at s c x ≡ At w) where
+  module _ (w : ℕ) (e : window_at s c x ≡ Some w) where
     abbrev u : ℕ
     u = (window s w).vcpu
 
-    row : (y : ℕ) → window_at t c x ≡ At y → window t y ≡ window s w → y ≡ w
+    row : (y : ℕ) → window_at t c x ≡ Some y → window t y ≡ window s w → y ≡ w
     row y q d = same_row s t v h w y (window_at_holds s f c x w e).row (window_at_holds t g c x y q).row d
 
     other : u ≢ v → sight_of s (on_core s c x) ≡ sight_of t (on_core t c x)
@@ -103,10 +103,10 @@ module _ (s t : List ℕ) (v : ℕ) (h : Alike s t v) (c x : ℕ) where
 core_same : (s t : List ℕ) (v : ℕ) → Alike s t v → (c x : ℕ) → hides v (sight_of s (on_core s c x)) ≡ hides v (sight_of t (on_core t c x))
 core_same s t v h c x = go (window_at s c x) (window_at t c x) refl refl
   where
-    go : (d e : Found) → window_at s c x ≡ d → window_at t c x ≡ e → hides v (sight_of s (on_core s c x)) ≡ hides v (sight_of t (on_core t c x))
-    go (At w) e p q = in_window_holds s t v h c x w p
-    go Nothing (At w) p q = sym (in_window_holds t s v (turned h) c x w q)
-    go Nothing Nothing p q = ap (hides v) (outside_seen s (facts s h.plan) c x p ∙ sym (outside_seen t (facts t h.changed) c x q))
+    go : (d e : Option ℕ) → window_at s c x ≡ d → window_at t c x ≡ e → hides v (sight_of s (on_core s c x)) ≡ hides v (sight_of t (on_core t c x))
+    go (Some w) e p q = in_window_holds s t v h c x w p
+    go None (Some w) p q = sym (in_window_holds t s v (turned h) c x w q)
+    go None None p q = ap (hides v) (outside_seen s (facts s h.plan) c x p ∙ sym (outside_seen t (facts t h.changed) c x q))
 
 -- ---- the claim
 

@@ -1,7 +1,7 @@
 -- A piece lies in a window of its VCPU exactly if it lies in the last one to begin by its start: windows of a VCPU do not overlap.
 use Prim.Native.Nat.{ℕ, zero, suc, ◌+◌, ◌-◌, max, ◌<◌, ◌≤◌}
 use mathlib.Core.Path.{◌≡◌, refl, sym, ap, ◌∙◌, subst}
-use mathlib.Core.Logic.{inl, inr, ◌≢◌}
+use mathlib.Core.Logic.{inl, inr}
 use mathlib.Core.Bool.{Bool, true, false, true≢false}
 use mathlib.Core.List.{List}
 use native.Mathlib.Decide.{dec_lt}
@@ -142,8 +142,13 @@ Led s n i = (w : ℕ) → w < n → i < rows s Pieces → (window s w).start ≤
 pub led_on : (s : List ℕ) → Sound s → (n i : ℕ) → Starting s (piece s i).start n → Led s n (i + 1)
 led_on s h n i b w l m = omega (arith, b w l, pieces_rise s h i (i + 1) (omega arith) m)
 
--- a row that is named
-pub one_named : (s : List ℕ) (i x : ℕ) → x ≢ 0 → inside s i (x - 1) ≡ inside_last s i x
+-- a window that is named, and none
+pub one_named : (s : List ℕ) (i last w : ℕ) → 1 ≤ last → w ≡ last - 1 → inside s i w ≡ inside_last s i last
 unfolding inside_last
-one_named s i zero h = absurd (h refl)
-one_named s i (suc w) h = ap (inside s i) (let e : suc w - 1 ≡ w = omega arith in e)
+one_named s i zero w l e = absurd (omega (arith, l))
+one_named s i (suc n) w l e = ap (inside s i) (let d : w ≡ n = omega (arith, e) in d)
+
+pub none_named : (s : List ℕ) (i last : ℕ) → ((1 ≤ last) → ⊥) → false ≡ inside_last s i last
+unfolding inside_last
+none_named s i zero h = refl
+none_named s i (suc n) h = absurd (h (omega arith))

@@ -13,7 +13,7 @@ ghost use Rattle.tallies.specs.Tallies.{Kept};
 ghost use Rattle.inside.specs.Holders.{holders, inside_last, vcpu_of, Begun, Starting};
 
 use charges::charge_at;
-use plan::{Found, Table, Vcpu};
+use plan::{Table, Vcpu};
 use tables::{piece_at, rows_of, task_at, window_at};
 use terms::{piece_end, window_end};
 
@@ -38,28 +38,27 @@ fn take_windows(image: &[u8], last: &mut [u32], from: u32, tick: u32) -> u32
     ensures { Begun image.now tick result × Kept last.new 0 most_vcpus (holders image.now result) }
 {
     let windows = rows_of(image, Table::Windows);
-    let mut window = from;
-    while window < windows {
+    for window in from..windows {
         let w = window_at(image, window);
         if tick < w.start {
             return window;
         }
         last[w.vcpu as usize] = window + 1;
-        window += 1;
     }
-    window
+    windows
 }
 
-// Is a piece inside, by the last window of its VCPU to begin? 0 stands for none, else it is one more than its row.
+// Is a piece inside, by the last window of its VCPU to begin? 0 stands for none, else it is one more than its row: a number, no Option, since
+// `holders` says so of the words.
 fn inside_last(image: &[u8], charges: &[u32], piece: u32, last: u32) -> bool
     requires sound { Sound image.now × (Charged image.now charges.now × (piece < rows image.now Pieces)) }
     requires last_bound { last ≤ rows image.now Windows }
     ensures { result ≡ inside_last image.now piece last }
 {
-    if last == 0 {
-        return false;
+    match last.checked_sub(1) {
+        Some(window) => lies_inside(image, charges, piece, window),
+        None => false,
     }
-    lies_inside(image, charges, piece, last - 1)
 }
 
 // A piece's VCPU.
@@ -71,27 +70,25 @@ fn vcpu_of(image: &[u8], piece: u32) -> u32
 }
 
 // The same of all pieces, with a word for each VCPU: its last window to begin, none at first.
-fn outside_after(image: &[u8], charges: &[u32], last: &mut [u32]) -> Found
+fn outside_after(image: &[u8], charges: &[u32], last: &mut [u32]) -> Option<u32>
     requires sound { Sound image.now × (Passed (piece_questions image.now) 4 × Charged image.now charges.now) }
     requires kept { Kept last.old 0 most_vcpus (λ _. 0) }
     ensures { result ≡ first_no (rows image.now Pieces) (piece_inside image.now) }
 {
     let pieces = rows_of(image, Table::Pieces);
     let mut window: u32 = 0;
-    let mut piece: u32 = 0;
-    while piece < pieces {
+    for piece in 0..pieces {
         window = take_windows(image, last, window, piece_at(image, piece).start);
         let vcpu = vcpu_of(image, piece);
         if !inside_last(image, charges, piece, last[vcpu as usize]) {
-            return Found::At(piece);
+            return Some(piece);
         }
-        piece += 1;
     }
-    Found::Nothing
+    None
 }
 
 // 11: the lowest piece that lies in no window.
-pub fn first_outside(image: &[u8], charges: &[u32]) -> Found
+pub fn first_outside(image: &[u8], charges: &[u32]) -> Option<u32>
     requires { Sound image.now × (Passed (piece_questions image.now) 4 × Charged image.now charges.now) }
     ensures { result ≡ first_no (rows image.now Pieces) (piece_inside image.now) }
 {

@@ -2,13 +2,13 @@
 use Prim.Native.Nat.{ℕ, zero, suc, ◌+◌, ◌-◌, ◌*◌, ◌^◌, ◌≤◌, ◌<◌, min, max}
 use mathlib.Core.Path.{◌≡◌, refl, sym, ap, ◌∙◌, subst}
 use mathlib.Core.Bool.{Bool, true, false, cond, true≢false}
-use mathlib.Core.Logic.{inl, inr, ◌≢◌}
+use mathlib.Core.Logic.{inl, inr}
 use native.Mathlib.Nat.{div-le_self}
 use native.Mathlib.Decide.{ℕ_discrete}
 use mathlib.Core.List.{List}
 use native.Mathlib.Omega.{arith}
 use lib.Dec.{eqb}
-use lib.ListN.{length, get_or, set, length-set}
+use lib.ListN.{get_or, set, length-set}
 use lib.Seq.{get_or-set_other}
 use borrow.Author.Tests.{eq-eqb, ne_eqb}
 use Rattle.plan.specs.declared.Table.TheVariants.{Tasks, Pieces}
@@ -20,9 +20,9 @@ use Rattle.plan.proofs.Searching.{sum_turn}
 use Rattle.plan.proofs.Passing.{piece_ends}
 use Rattle.plan.proofs.Jobs.{of_job_holds}
 use Rattle.tallies.specs.Tallies.{tally, Kept}
-use Rattle.tallies.proofs.Tallying.{kept_at, kept_on, kept_apart, kept_as, kept_more, kept_none, tally_none, tally_at, tally_other, tally_next, tally_skip, tally_sum, tally_largest, tally_smallest}
+use Rattle.tallies.proofs.Tallying.{kept_at, kept_on, kept_apart, kept_as, kept_none, tally_none, tally_at, tally_other, tally_next, tally_skip, tally_sum, tally_largest, tally_smallest}
 use Rattle.tallies.proofs.Places.{place_below, place_one}
-use Rattle.jobs.specs.Times.{place, task_place, piece_place, work_of, taken_at, Placed, Cleared, Gathered, AllGathered, Timed, firsts_at, lasts_at, works_at, times_words}
+use Rattle.jobs.specs.Times.{place, task_place, piece_place, work_of, taken_at, Placed, Cleared, Gathered, AllGathered, Timed, firsts_at, lasts_at, works_at}
 use Rattle.jobs.proofs.Held.{job_of, piece_fits_holds, all_placed}
 
 -- ---- places
@@ -168,45 +168,6 @@ module _ (s times : List ℕ) (h : Sound s) (m : ℕ) (p : Passed (piece_questio
         firsts = tally_skip min (cycle_ticks s) (piece_place s) (λ j. (piece s j).start) times firsts_at most_pieces i g.firsts y;
         lasts = tally_skip max 0 (piece_place s) (piece_end s) times lasts_at most_pieces i g.lasts y;
         works = tally_skip ◌+◌ 0 (piece_place s) (work_of s) times works_at most_pieces i g.works y;
-      }
-
--- ---- before any piece
-
-pub cleared_none : (cycle : ℕ) (times : List ℕ) → length times ≡ times_words → Cleared cycle times 0
-cleared_none cycle times e =
-    record {
-      size = e;
-      firsts = kept_none times firsts_at (λ _. cycle) (omega arith);
-      lasts = kept_none times lasts_at (λ _. 0) (omega arith);
-      works = kept_none times works_at (λ _. 0) (omega arith);
-    }
-
-module _ (cycle : ℕ) (times : List ℕ) (n : ℕ) (l : n < most_pieces) (h : Cleared cycle times n) where
-  abbrev first : List ℕ
-  first = set times (firsts_at + n) cycle
-
-  abbrev second : List ℕ
-  second = set first (lasts_at + n) 0
-
-  pub cleared_more : Cleared cycle (set second (works_at + n) 0) (n + 1)
-  cleared_more =
-      let e = h.size in
-      let s1 : length first ≡ times_words = simp length-set e in
-      let s2 : length second ≡ times_words = simp length-set e in
-      record {
-        size = simp length-set e;
-        firsts =
-            kept_apart second firsts_at (n + 1) (λ _. cycle)
-            (kept_apart first firsts_at (n + 1) (λ _. cycle) (kept_more times firsts_at n (λ _. cycle) h.firsts (omega arith) cycle refl) (lasts_at + n) 0 (inr (omega arith)))
-            (works_at + n) 0 (inr (omega arith));
-        lasts =
-            kept_apart second lasts_at (n + 1) (λ _. 0)
-            (kept_more first lasts_at n (λ _. 0) (kept_apart times lasts_at n (λ _. 0) h.lasts (firsts_at + n) cycle (inl (omega arith))) (omega arith) 0 refl)
-            (works_at + n) 0 (inr (omega arith));
-        works =
-            kept_more second works_at n (λ _. 0)
-            (kept_apart first works_at n (λ _. 0) (kept_apart times works_at n (λ _. 0) h.works (firsts_at + n) cycle (inl (omega arith))) (lasts_at + n) 0 (inl (omega arith)))
-            (omega arith) 0 refl;
       }
 
 -- ---- the tasks' places

@@ -2,7 +2,7 @@
 -- job in the tasks' order; then come a first start, a last end and the work of each place. There are as many places as there may be
 -- pieces: a task whose jobs lie past them has the first place that is not kept.
 use Rattle.std.specs.Prelude.{ℕ, ◌+◌, ◌-◌, ◌<◌, ◌≤◌, min, max, ◌≡◌, true, List, length, get_or, set}
-use Rattle.plan.specs.declared.Found.TheVariants.{Nothing}
+use Rattle.std.specs.Prelude.{None}
 use Rattle.plan.specs.declared.Table.TheVariants.{Tasks, Pieces}
 use Rattle.plan.specs.Image.{rows, cycle_ticks, piece, most_tasks, most_pieces}
 use Rattle.plan.specs.Search.{all, sum, first_no}
@@ -66,7 +66,7 @@ AllGathered s times = Gathered s times (rows s Pieces)
 
 -- 13, asked of a task after all before it, and of a job after all before it
 abbrev pub TasksBefore : List ℕ → ℕ → Type 0
-TasksBefore s t = first_no t (task_budget s) ≡ Nothing
+TasksBefore s t = first_no t (task_budget s) ≡ None
 
 abbrev pub JobsBefore : List ℕ → ℕ → ℕ → Type 0
 JobsBefore s t k = TasksBefore s t × (all k (job_budget s t) ≡ true)

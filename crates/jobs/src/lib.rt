@@ -11,7 +11,6 @@ ghost use Rattle.jobs.specs.Times.{Cleared, taken_at, Gathered, AllGathered, Tim
 
 use plan::{Piece, Table, Task};
 use tables::{cycle_ticks, piece_at, rows_of};
-use tallies::{greater, lesser};
 use terms::{jobs_of, piece_end, switch_ticks};
 
 // How many words the times take: a place for each task; a first start, a last end and the work of each job.
@@ -34,11 +33,9 @@ fn place_tasks(image: &[u8], times: &mut [u32])
 {
     let tasks = rows_of(image, Table::Tasks);
     let mut place: u32 = 0;
-    let mut task: u32 = 0;
-    while task < tasks {
+    for task in 0..tasks {
         times[task as usize] = place;
-        place = lesser(JOBS as u32, place + jobs_of(image, task));
-        task += 1;
+        place = (JOBS as u32).min(place + jobs_of(image, task));
     }
 }
 
@@ -47,12 +44,10 @@ fn clear_jobs(times: &mut [u32], cycle: u32)
     requires { length times.old ≡ times_words }
     ensures { Cleared cycle times.new most_pieces }
 {
-    let mut place: usize = 0;
-    while place < JOBS {
+    for place in 0..JOBS {
         times[FIRSTS + place] = cycle;
         times[LASTS + place] = 0;
         times[WORKS + place] = 0;
-        place += 1;
     }
 }
 
@@ -61,8 +56,8 @@ fn take_at(times: &mut [u32], place: usize, start: u32, end: u32, work: u32)
     requires { (length times.old ≡ times_words) × ((place < most_pieces) × (get_or times.old (works_at + place) 0 + work < 2 ^ 32)) }
     ensures { times.new ≡ taken_at times.old place start end work }
 {
-    let first = lesser(times[FIRSTS + place], start);
-    let last = greater(times[LASTS + place], end);
+    let first = times[FIRSTS + place].min(start);
+    let last = times[LASTS + place].max(end);
     let sum = times[WORKS + place] + work;
     times[FIRSTS + place] = first;
     times[LASTS + place] = last;
@@ -91,10 +86,8 @@ fn take_all(image: &[u8], times: &mut [u32])
     ensures { AllGathered image.now times.new }
 {
     let pieces = rows_of(image, Table::Pieces);
-    let mut piece: u32 = 0;
-    while piece < pieces {
+    for piece in 0..pieces {
         take_in(image, times, piece);
-        piece += 1;
     }
 }
 

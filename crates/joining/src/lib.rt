@@ -8,7 +8,7 @@ use agreeing::{plans_agree, tasks_shared};
 use composing::write;
 use joins::Joined;
 use plan::Answer;
-use questions::check;
+use questions::{ask, check};
 
 // A refusal: no image is written.
 fn refused(answer: Answer) -> Joined
@@ -21,14 +21,7 @@ fn refused(answer: Answer) -> Joined
 fn refused_by(number: u32) -> Joined
     ensures { result ≡ record { answer = record { number = number; table = 0; row = 0 }; length = 0 } }
 {
-    Joined {
-        answer: Answer {
-            number,
-            table: 0,
-            row: 0,
-        },
-        length: 0,
-    }
+    refused(plan::refused(number))
 }
 
 // Joins the second plan to the first; their first `shared` tasks are the same. Asks both inputs, the first before the second, then 35 to 37, and
@@ -38,12 +31,10 @@ pub fn join(first: &[u8], second: &[u8], shared: u32, joined: &mut [u8]) -> Join
     ensures value { result ≡ record { answer = join_answer first.now second.now shared (length joined.old); length = join_length first.now second.now shared (length joined.old) } }
     ensures joined_after { joined.new ≡ join_bytes first.now second.now shared joined.old }
 {
-    let own = check(first);
-    if own.number != 0 {
+    if let Err(own) = ask(first) {
         return refused(own);
     }
-    let other = check(second);
-    if other.number != 0 {
+    if let Err(other) = ask(second) {
         return refused(other);
     }
     if !plans_agree(first, second) {
@@ -52,10 +43,9 @@ pub fn join(first: &[u8], second: &[u8], shared: u32, joined: &mut [u8]) -> Join
     if !tasks_shared(first, second, shared) {
         return refused_by(36);
     }
-    let length = write(first, second, shared, joined);
-    if length == 0 {
+    let Some(length) = write(first, second, shared, joined) else {
         return refused_by(37);
-    }
+    };
     let end = length as usize;
     let image = &joined[0..end];
     Joined {

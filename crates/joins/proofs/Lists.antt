@@ -11,8 +11,8 @@ use lib.ListN.{length, get_or, length-append, get_or-append}
 use lib.Seq.{get_or-append-add, get_or-append_seam}
 use borrow.Author.Tests.{eqb-true, eq-eqb}
 use Rattle.plan.specs.declared.Table.{Table}
-use Rattle.plan.specs.declared.Found.{Found}
-use Rattle.plan.specs.declared.Found.TheVariants.{At, Nothing}
+use Rattle.std.specs.Prelude.{Option}
+use Rattle.std.specs.Prelude.{Some, None}
 use Rattle.plan.specs.Image.{shape, rows, field}
 use Rattle.joins.specs.Joins.{below, row_by, rows_by, row_words, rows_of, same_words, lowest, is_new, new_rows}
 use Rattle.plan.proofs.Searching.{and_true, first_at}
@@ -102,11 +102,11 @@ has_right xs {ys} h =
 pub has_first : {x : List ℕ} {xs : List (List ℕ)} → Has (x ∷ xs) x
 has_first = record { row = 0; exists = omega arith; words = refl }
 
-pub lowest_has : (rs : List (List ℕ)) (x : List ℕ) (i : ℕ) → lowest rs x ≡ At i → Has rs x
+pub lowest_has : (rs : List (List ℕ)) (x : List ℕ) (i : ℕ) → lowest rs x ≡ Some i → Has rs x
 unfolding lowest
 lowest_has rs x i e = let r = first_at (λ i. same_words (get_or rs i []) x) (length rs) i e in record { row = i; exists = r.0; words = same_words_holds (get_or rs i []) x r.1 }
 
-pub is_new_holds : (rs : List (List ℕ)) (x : List ℕ) → lowest rs x ≡ Nothing → is_new rs x ≡ true
+pub is_new_holds : (rs : List (List ℕ)) (x : List ℕ) → lowest rs x ≡ None → is_new rs x ≡ true
 unfolding is_new
 is_new_holds rs x e = rw (e, is_new) refl
 
@@ -120,6 +120,6 @@ new_has rs x e (y ∷ ys) (suc i) l q = has_right (cond (is_new rs y) (y ∷ [])
 pub joined_has : (rs xs : List (List ℕ)) (x : List ℕ) → Has xs x → Has (rs ++ new_rows rs xs) x
 joined_has rs xs x h = go (lowest rs x) refl
   where
-    go : (d : Found) → lowest rs x ≡ d → Has (rs ++ new_rows rs xs) x
-    go (At i) e = has_left (new_rows rs xs) (lowest_has rs x i e)
-    go Nothing e = has_right rs (new_has rs x (is_new_holds rs x e) xs h.row h.exists h.words)
+    go : (d : Option ℕ) → lowest rs x ≡ d → Has (rs ++ new_rows rs xs) x
+    go (Some i) e = has_left (new_rows rs xs) (lowest_has rs x i e)
+    go None e = has_right rs (new_has rs x (is_new_holds rs x e) xs h.row h.exists h.words)

@@ -10,8 +10,8 @@ use lib.ListN.{length, get_or, drop, length-append, length-drop, get_or-append}
 use lib.Seq.{get_or-append-add, get_or-drop}
 use borrow.Author.Tests.{lt-ltb, le-ltb}
 use Rattle.plan.specs.declared.Table.TheVariants.{Tasks, Streams}
-use Rattle.plan.specs.declared.Found.{Found}
-use Rattle.plan.specs.declared.Found.TheVariants.{At, Nothing}
+use Rattle.std.specs.Prelude.{Option}
+use Rattle.std.specs.Prelude.{Some, None}
 use Rattle.plan.specs.Image.{rows}
 use Rattle.plan.specs.Search.{count}
 use Rattle.plan.proofs.Searching.{first_at}
@@ -50,11 +50,11 @@ pub row_at_is : (rs xs : List (List ℕ)) (r : ℕ) → r < length xs
 unfolding row_at
 row_at_is rs xs r l = go (lowest rs (get_or xs r [])) refl
   where
-    go : (d : Found) → lowest rs (get_or xs r []) ≡ d → (row_at rs xs r < length (rs ++ new_rows rs xs)) × (get_or (rs ++ new_rows rs xs) (row_at rs xs r) [] ≡ get_or xs r [])
-    go (At i) e =
+    go : (d : Option ℕ) → lowest rs (get_or xs r []) ≡ d → (row_at rs xs r < length (rs ++ new_rows rs xs)) × (get_or (rs ++ new_rows rs xs) (row_at rs xs r) [] ≡ get_or xs r [])
+    go (Some i) e =
         let h : (i < length rs) × (same_words (get_or rs i []) (get_or xs r []) ≡ true) = unfold lowest in (first_at (λ i. same_words (get_or rs i []) (get_or xs r [])) (length rs) i e) in
         rw (e, row_at) (rw (length-append rs (new_rows rs xs)) (omega (arith, h.0)), get_or-append rs (new_rows rs xs) [] i h.0 ∙ same_words_holds (get_or rs i []) (get_or xs r []) h.1)
-    go Nothing e =
+    go None e =
         let h = new_at rs xs r l (is_new_holds rs (get_or xs r []) e) in
         rw (e, row_at) (rw (length-append rs (new_rows rs xs)) (omega (arith, h.0)), get_or-append-add rs (new_rows rs xs) (count r (λ q. is_new rs (get_or xs q []))) [] ∙ h.1)
 

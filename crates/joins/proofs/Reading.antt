@@ -10,8 +10,8 @@ use lib.ListN.{length, get_or, drop, length-append}
 use borrow.Author.Tests.{leb-true, ltb-true, eqb-true}
 use Rattle.plan.specs.declared.Table.{Table}
 use Rattle.plan.specs.declared.Table.TheVariants.{Cores, Vcpus, Tasks, Windows, Pieces, Links, Streams, Frames, Buffers, Chains}
-use Rattle.plan.specs.declared.Found.{Found}
-use Rattle.plan.specs.declared.Found.TheVariants.{At, Nothing}
+use Rattle.std.specs.Prelude.{Option}
+use Rattle.std.specs.Prelude.{Some, None}
 use Rattle.plan.specs.Image.{tables, shape, trailer_bytes, most_bytes, cycle_ticks, precision, rows, field, piece, stream, frame, buffer, chain, image}
 use Rattle.plan.specs.Questions.{answer_of, accepted}
 use Rattle.plan.proofs.Searching.{and_true, count_most, first_at}
@@ -111,9 +111,9 @@ row_at_low : (rs xs : List (List ℕ)) (r : ℕ) → row_at rs xs r ≤ length r
 unfolding row_at
 row_at_low rs xs r = go (lowest rs (get_or xs r [])) refl
   where
-    go : (d : Found) → lowest rs (get_or xs r []) ≡ d → row_at rs xs r ≤ length rs + r
-    go (At i) e = let h : i < length rs = unfold lowest in (first_at (λ i. same_words (get_or rs i []) (get_or xs r [])) (length rs) i e).0 in rw (e, row_at) (omega arith)
-    go Nothing e = rw (e, row_at) (omega (arith, count_most (λ q. is_new rs (get_or xs q [])) r))
+    go : (d : Option ℕ) → lowest rs (get_or xs r []) ≡ d → row_at rs xs r ≤ length rs + r
+    go (Some i) e = let h : i < length rs = unfold lowest in (first_at (λ i. same_words (get_or rs i []) (get_or xs r [])) (length rs) i e).0 in rw (e, row_at) (omega arith)
+    go None e = rw (e, row_at) (omega (arith, count_most (λ q. is_new rs (get_or xs q [])) r))
 
 -- ---- what the rows of an accepted plan name
 

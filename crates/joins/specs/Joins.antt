@@ -3,8 +3,8 @@ use Rattle.std.specs.Prelude.{ℕ, zero, suc, ◌+◌, ◌-◌, ◌*◌, Bool, t
 use mathlib.Core.List.{List, ◌∷◌, ◌++◌, [], flat_map}
 use Rattle.plan.specs.declared.Table.{Table}
 use Rattle.plan.specs.declared.Table.TheVariants.{Cores, Vcpus, Tasks, Windows, Pieces, Links, Streams, Frames, Buffers, Chains}
-use Rattle.plan.specs.declared.Found.{Found}
-use Rattle.plan.specs.declared.Found.TheVariants.{At, Nothing}
+use Rattle.std.specs.Prelude.{Option}
+use Rattle.std.specs.Prelude.{Some, None}
 use Rattle.plan.specs.declared.Answer.{Answer}
 use Rattle.plan.specs.Search.{first, all, count, rises}
 use Rattle.plan.specs.Image.{tables, shape, cycle_ticks, precision, rows, field}
@@ -40,12 +40,12 @@ same_words (x ∷ xs) [] = false
 same_words (x ∷ xs) (y ∷ ys) = eqb x y && same_words xs ys
 
 -- the lowest of the rows rs that equals row x
-unfoldable pub lowest : List (List ℕ) → List ℕ → Found
+unfoldable pub lowest : List (List ℕ) → List ℕ → Option ℕ
 lowest rs x = first (length rs) (λ i. same_words (get_or rs i []) x)
 
 -- does none of them equal it
 unfoldable pub is_new : List (List ℕ) → List ℕ → Bool
-is_new rs x = elim (lowest rs x) [ At i ↦ false | Nothing ↦ true ]
+is_new rs x = elim (lowest rs x) [ Some i ↦ false | None ↦ true ]
 
 -- those of the rows xs that equal none of rs, in their order
 unfoldable pub new_rows : List (List ℕ) → List (List ℕ) → List (List ℕ)
@@ -54,7 +54,7 @@ new_rows rs (x ∷ xs) = cond (is_new rs x) (x ∷ []) [] ++ new_rows rs xs
 
 -- where row r of xs is once its new rows are appended to rs: at the lowest equal row, or appended
 unfoldable pub row_at : List (List ℕ) → List (List ℕ) → ℕ → ℕ
-row_at rs xs r = elim (lowest rs (get_or xs r [])) [ At i ↦ i | Nothing ↦ length rs + count r (λ q. is_new rs (get_or xs q [])) ]
+row_at rs xs r = elim (lowest rs (get_or xs r [])) [ Some i ↦ i | None ↦ length rs + count r (λ q. is_new rs (get_or xs q [])) ]
 
 -- ---- rows put in order, as question 32 asks: by their start, then by their words from the first on
 

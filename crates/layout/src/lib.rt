@@ -3,12 +3,12 @@
 
 ghost use Rattle.std.specs.Prelude.{◌≡◌, ◌≤◌, ◌-◌, length, eqb};
 ghost use Rattle.plan.specs.Image.{tables, trailer_bytes, word_at};
-ghost use Rattle.plan.specs.Questions.{laid, image_questions, answer_to};
+ghost use Rattle.plan.specs.Questions.{laid, image_questions};
+ghost use Rattle.asking.specs.Asking.{verdict};
 ghost use Rattle.layout.specs.Tests.{length_fits, table_fits, laid_out, ticks_fit};
 
-use plan::{
-    Answer, Buffer, Chain, Core, Frame, Link, Piece, Stream, Table, Task, Vcpu, Window, refused,
-};
+use asking::whole;
+use plan::{Answer, Buffer, Chain, Core, Frame, Link, Piece, Stream, Table, Task, Vcpu, Window};
 use tables::{
     TABLES, TRAILER_BYTES, cycle_ticks, end_of, offset_of, precision_ticks, rows_of, shape_of,
     table_at, word,
@@ -60,14 +60,12 @@ fn tables_fit(image: &[u8]) -> bool
     ensures { result ≡ laid image.now 0 tables }
 {
     let mut from: u64 = 0;
-    let mut i: u32 = 0;
-    while i < TABLES {
+    for i in 0..TABLES {
         let table = table_at(i);
         if !table_fits(image, table, from) {
             return false;
         }
         from = end_of(image, table);
-        i += 1;
     }
     from == (image.len() - TRAILER_BYTES) as u64
 }
@@ -90,20 +88,11 @@ fn ticks_fit(image: &[u8]) -> bool
 }
 
 // Questions 1 to 4.
-pub fn ask_image(image: &[u8]) -> Answer
-    ensures { result ≡ answer_to (image_questions image.now) }
+pub fn ask_image(image: &[u8]) -> Result<(), Answer>
+    ensures { result ≡ verdict (image_questions image.now) }
 {
-    if !length_fits(image) {
-        return refused(1);
-    }
-    if !points_back(image) {
-        return refused(2);
-    }
-    if !laid_out(image) {
-        return refused(3);
-    }
-    if !ticks_fit(image) {
-        return refused(4);
-    }
-    plan::accepted()
+    whole(1, length_fits(image))?;
+    whole(2, points_back(image))?;
+    whole(3, laid_out(image))?;
+    whole(4, ticks_fit(image))
 }

@@ -37,19 +37,6 @@ module _ (s : List ℕ) where
   number_of_holds : {a b : Answer} → a ≡ b → a.number ≡ b.number
   number_of_holds e = ap (λ (x : Answer). x.number) e
 
-  pub stop_image : (answer_to (image_questions s)).number ≢ 0 → (answer_to (image_questions s)).number ≡ (answer_to early).number
-  stop_image h = sym (number_of_holds (stopped_first (image_questions s) _ h))
-
-  module _ (i : (answer_to (image_questions s)).number ≡ 0) where
-    past_image : answer_to early ≡ answer_to (row_questions s ++ take 4 (piece_questions s))
-    past_image = then_asked (image_questions s) _ (real_image s) i
-
-    pub stop_rows : (answer_to (row_questions s)).number ≢ 0 → (answer_to (row_questions s)).number ≡ (answer_to early).number
-    stop_rows h = sym (number_of_holds (past_image ∙ stopped_first (row_questions s) _ h))
-
-    pub to_fitting : (answer_to (row_questions s)).number ≡ 0 → (answer_to (take 4 (piece_questions s))).number ≡ (answer_to early).number
-    to_fitting r = sym (number_of_holds (past_image ∙ then_asked (row_questions s) _ (real_rows s) r))
-
   real_early : Real early
   real_early = real_append (image_questions s) _ (real_image s) (real_append (row_questions s) _ (real_rows s) (real_four s))
 

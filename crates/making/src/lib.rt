@@ -3,24 +3,29 @@
 
 ghost use Rattle.std.specs.Prelude.{◌≡◌, ◌++◌, take};
 ghost use Rattle.plan.specs.Questions.{image_questions, row_questions, piece_questions, answer_to};
+ghost use Rattle.asking.specs.Asking.{verdict};
 ghost use Rattle.drafts.specs.Edits.{make_number, make_words};
 
 use draftwords::WORDS;
+use plan::Answer;
 
-// 1 to 5, 32 and 6 to 10: the number of the first that is answered no, or 0.
+// 1 to 5, 32 and 6 to 10, in this order.
+fn ask(image: &[u8]) -> Result<(), Answer>
+    ensures { result ≡ verdict (image_questions image.now ++ (row_questions image.now ++ take 4 (piece_questions image.now))) }
+{
+    layout::ask_image(image)?;
+    rows::ask(image)?;
+    windows::ask_fitting(image)
+}
+
+// The number of the first of these that is answered no, or 0.
 fn asked(image: &[u8]) -> u32
     ensures { result ≡ (answer_to (image_questions image.now ++ (row_questions image.now ++ take 4 (piece_questions image.now)))).number }
 {
-    let whole = layout::ask_image(image);
-    if whole.number != 0 {
-        return whole.number;
+    match ask(image) {
+        Ok(()) => 0,
+        Err(no) => no.number,
     }
-    let rows = rows::ask(image);
-    if rows.number != 0 {
-        return rows.number;
-    }
-    let fitting = windows::ask_fitting(image);
-    fitting.number
 }
 
 // Makes a draft: these questions, then 34. After a refusal no word has changed.

@@ -50,15 +50,13 @@ pub fn hops_joined(image: &[u8], index: &[u32], stream: u32, job: u32) -> bool
     let m = stream_at(image, stream);
     let hops = m.hops;
     let mut node = node_of(image, m.sender);
-    let mut hop: u32 = 0;
-    while hop < hops {
+    for hop in 0..hops {
         let frame = frame_of(image, index, stream, job, hop);
         let link = link_at(image, frame_at(image, frame).link);
         if link.from != node {
             return false;
         }
         node = link.to;
-        hop += 1;
     }
     node == node_of(image, m.receiver)
 }

@@ -1,5 +1,6 @@
 -- A start, a request and holding a plan over bytes, by their answers.
 use Prim.Native.Nat.{ℕ, ◌+◌, ◌*◌, ◌/◌, ◌%◌, ◌≤◌, ◌<◌}
+use Rattle.std.proofs.Common.{Option, Some, None, Err}
 use mathlib.Core.Path.{◌≡◌, refl, sym, ap, ◌∙◌}
 use mathlib.Core.Logic.{◌≢◌}
 use mathlib.Core.Bool.{Bool, true, false, ◌&&◌, cond}
@@ -11,16 +12,16 @@ use borrow.Author.Tests.{eqb-true, eq-eqb, ne_eqb, lt-ltb, le-ltb}
 use Rattle.plan.specs.declared.Answer.{Answer}
 use Rattle.plan.specs.Image.{word_at}
 use Rattle.plan.specs.Questions.{answer_of, accepted, questions, answer_to, whole}
-use Rattle.plan.specs.Dispatch.{lanes, starts_at}
+use Rattle.plan.specs.Dispatch.{starts_at}
 use Rattle.plan.specs.Boundary.{words_of, state_bytes}
 use Rattle.plan.proofs.Asking.{then_asked, stopped_first}
-use Rattle.plan.proofs.Facts.{facts}
 use Rattle.plan.proofs.Numbers.{real}
 use Rattle.plan.proofs.Searching.{and_true}
+use Rattle.asking.specs.Asking.{verdict}
+use Rattle.questions.proofs.Verdict.{ask_refuses, ask_numbers}
 use Rattle.lanes.proofs.Building.{asked, whole_yes, whole_no}
 use Rattle.writing.specs.Stored.{stored}
 use Rattle.writing.specs.AllTables.{all_tables}
-use Rattle.writing.proofs.AllTables.{below_inside}
 use Rattle.modes.specs.Modes.{places, held_of, lane_count, plan, held, alike, table_from, table_at, started, request_number, words_end, hold_answer}
 use Rattle.modeblock.proofs.Blocks.{suffices}
 use Rattle.modeblock.specs.Blocks.{is_block, held_words, has_row, has_room, plans_of, used_of, mode_of, shift_of, modes_hold_answer, modes_hold_words, modes_hold_block, modes_start_number, modes_start_states, modes_start_block, modes_request_number, modes_request_block}
@@ -114,9 +115,9 @@ pub used_is : (b : List ℕ) → used_of b ≡ word_at b 8
 unfolding used_of
 used_is b = refl
 
-pub some_words : (image : List ℕ) → answer_of image ≡ accepted → 0 < length (all_tables image)
-unfolding lanes
-some_words image e = let l : 0 < lanes image = let k = (facts image e).core in omega arith in let k = below_inside image 0 l in omega arith
+-- an answer that asking gives is a refusal
+pub asked_no : (image : List ℕ) (x : Answer) → Err x ≡ verdict (questions image) → x.number ≢ 0
+asked_no image x e z = ask_numbers image x e (ap (λ (a : Answer). a.number) (ask_refuses image x e) ∙ z)
 
 module _ (b image : List ℕ) (p : ℕ) (words : List ℕ) where
   abbrev answer : Answer
@@ -153,29 +154,29 @@ module _ (b image : List ℕ) (p : ℕ) (words : List ℕ) where
         asks_26 : answer ≡ answer_to (whole 26 (suffices image (used_of b) words) ∷ [])
         asks_26 = asks_on ∙ whole_yes 43 (ltb p places) _ (lt-ltb p places l)
 
-        -- the word after the tables, or 0
-        abbrev end : ℕ
-        end = cond (suffices image (used_of b) words) (used_of b + length (all_tables image)) 0
+        -- the word after the tables, if there is room
+        abbrev end : Option ℕ
+        end = cond (suffices image (used_of b) words) (Some (used_of b + length (all_tables image))) None
 
         asks_too_much : suffices image (used_of b) words ≡ false → record { number = 26; table = 0; row = 0 } ≡ answer
         unfolding asked
         asks_too_much k = sym (asks_26 ∙ whole_no 26 (suffices image (used_of b) words) [] k)
 
-        pub hold_26 : (r : ℕ) → r ≡ end → r ≡ 0 → (record { number = 26; table = 0; row = 0 } ≡ answer) × (suffices image (used_of b) words ≡ false)
-        hold_26 r q z = go (suffices image (used_of b) words) refl (sym q ∙ z)
+        pub hold_26 : end ≡ None → (record { number = 26; table = 0; row = 0 } ≡ answer) × (suffices image (used_of b) words ≡ false)
+        hold_26 = go (suffices image (used_of b) words) refl
           where
-            go : (t : Bool) → suffices image (used_of b) words ≡ t → cond t (used_of b + length (all_tables image)) 0 ≡ 0
+            go : (t : Bool) → suffices image (used_of b) words ≡ t → cond t (Some (used_of b + length (all_tables image))) None ≡ None
                 → (record { number = 26; table = 0; row = 0 } ≡ answer) × (suffices image (used_of b) words ≡ false)
-            go true k o = absurd (let y = some_words image e in omega arith)
+            go true k o = absurd cc
             go false k o = (asks_too_much k, k)
 
-        pub hold_room : (r : ℕ) → r ≡ end → r ≢ 0 → (r ≡ used_of b + length (all_tables image)) × (suffices image (used_of b) words ≡ true)
-        hold_room r q z = go (suffices image (used_of b) words) refl q
+        pub hold_room : (r : ℕ) → end ≡ Some r → (r ≡ used_of b + length (all_tables image)) × (suffices image (used_of b) words ≡ true)
+        hold_room r = go (suffices image (used_of b) words) refl
           where
-            go : (t : Bool) → suffices image (used_of b) words ≡ t → r ≡ cond t (used_of b + length (all_tables image)) 0
+            go : (t : Bool) → suffices image (used_of b) words ≡ t → cond t (Some (used_of b + length (all_tables image))) None ≡ Some r
                 → (r ≡ used_of b + length (all_tables image)) × (suffices image (used_of b) words ≡ true)
-            go true k o = (o, k)
-            go false k o = absurd (z o)
+            go true k o = (cc, k)
+            go false k o = absurd cc
 
         pub hold_done : suffices image (used_of b) words ≡ true
             → (accepted ≡ answer) × ((stored words (4 * used_of b) (all_tables image) ≡ modes_hold_words b image p words)

@@ -7,7 +7,7 @@ use mathlib.Core.List.{List, ◌∷◌, ◌++◌, [], append-nil, append_assoc, 
 use native.Mathlib.Nat.{not-suc-le-zero, le_of_suc-le-suc, eq-or-lt_of_le}
 use native.Mathlib.Omega.{arith}
 use lib.Dec.{ltb, leb}
-use lib.ListN.{length, get_or, take, drop, length-drop, replicate, length-append, get_or-append, drop_of_length-le, length-replicate}
+use lib.ListN.{length, get_or, take, drop, length-drop, replicate, length-append, get_or-append, drop_of_length-le}
 use lib.Seq.{get_or-append_seam, sets, sets-eq, take_all, drop-drop}
 use borrow.Rule.Slice.PartMut.{put_mid}
 use borrow.Author.Tests.{ltb-true, lt-ltb, le-ltb, le-leb, lt-leb}
@@ -21,7 +21,7 @@ use Rattle.words.proofs.Words.{words_length}
 use Rattle.writing.specs.Stored.{stored}
 use Rattle.writing.specs.AllTables.{all_tables}
 use Rattle.writing.proofs.AllTables.{below_small, lanes_small}
-use Rattle.writing.proofs.Storing.{stored_after, stored_before, stored_one, stored_front}
+use Rattle.writing.proofs.Storing.{stored_after, stored_one, stored_front}
 use Rattle.writing.proofs.Tables.{entry_stored}
 use Rattle.modes.specs.declared.HeldPlan.{HeldPlan}
 use Rattle.modes.specs.Modes.{places, no_plan, is_plan, plan, held, suffice}
@@ -110,30 +110,10 @@ hold_stored b e i h =
     ap (λ (l : List ℕ). stored l i (held_words h))
     (stored_one (stored b 0 (places ∷ places ∷ [])) 8 e ∙ stored_after b 0 8 (places ∷ places ∷ []) (e ∷ []) refl)
 
--- one word more of 0
-pub cleared : (b now : List ℕ) (i j k : ℕ) → j ≡ i + 4 * k → now ≡ stored b i (replicate k 0) → sets now j (bytes_of 4 0) ≡ stored b i (replicate (suc k) 0)
-cleared b now i j k e q =
-    ap (λ (l : List ℕ). sets l j (bytes_of 4 0)) q
-    ∙ stored_one (stored b i (replicate k 0)) j 0
-    ∙ stored_after b i j (replicate k 0) (0 ∷ []) (rw (length-replicate {A = ℕ} k 0) e)
-    ∙ ap (stored b i) (snoc k)
-  where
-    snoc : (n : ℕ) → ◌++◌ {A = ℕ} (replicate n 0) (0 ∷ []) ≡ replicate (suc n) 0
-    snoc zero = refl
-    snoc (suc n) = ap (λ (l : List ℕ). 0 ∷ l) (snoc n)
-
-pub none_cleared : (b : List ℕ) (i : ℕ) → b ≡ stored b i (replicate 0 0)
-unfolding stored flat_map
-none_cleared b i = refl
-
--- all of a block's words
-pub fresh_stored : (b : List ℕ) → length b ≡ 172
-    → stored (stored b 8 (replicate 41 0)) 0 (places ∷ places ∷ []) ≡ flat_map (bytes_of 4) (places ∷ places ∷ replicate 41 0)
-fresh_stored b n =
-    stored_before b 0 8 (places ∷ places ∷ []) (replicate 41 0) refl
-    ∙ stored_front b (places ∷ places ∷ replicate 41 0) (omega arith)
-    ∙ ap (λ (l : List ℕ). flat_map (bytes_of 4) (places ∷ places ∷ replicate 41 0) ++ l) (drop_of_length-le b {i = 172} (omega arith))
-    ∙ append-nil (flat_map (bytes_of 4) (places ∷ places ∷ replicate 41 0))
+-- a block of zeros, with its first two words written
+pub fresh_filled : stored (replicate 172 0) 0 (places ∷ places ∷ []) ≡ flat_map (bytes_of 4) (places ∷ places ∷ replicate 41 0)
+unfolding flat_map bytes_of
+fresh_filled = stored_front (replicate 172 0) (places ∷ places ∷ []) (omega arith)
 
 -- what lies before the words stored, and behind them
 pub stored_parts : (b : List ℕ) (i : ℕ) (ws : List ℕ) → i + 4 * length ws ≤ length b

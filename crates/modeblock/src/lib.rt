@@ -3,7 +3,7 @@
 // another length is refused with 27 and stays as it was.
 #![tactic(auto)]
 
-ghost use Rattle.std.specs.Prelude.{◌≡◌, ◌&&◌, cond, ◌∷◌, [], ◌+◌, ◌*◌, ◌≤◌, ◌<◌, length, replicate, eqb, ltb};
+ghost use Rattle.std.specs.Prelude.{◌≡◌, ◌&&◌, cond, ◌∷◌, [], ◌+◌, ◌*◌, ◌≤◌, ◌<◌, length, eqb, ltb, Some, None};
 ghost use Rattle.plan.specs.Questions.{answer_of, accepted};
 ghost use Rattle.plan.specs.Image.{word_at};
 ghost use Rattle.plan.specs.Boundary.{words_of};
@@ -62,18 +62,6 @@ fn put_places(block: &mut [u8], running: u32, wanted: u32)
     put_word(block, 4, wanted);
 }
 
-// Writes 0 into all words after the first two.
-fn clear(block: &mut [u8])
-    requires { length block.old ≡ 172 }
-    ensures { block.new ≡ stored block.old 8 (replicate 41 0) }
-{
-    let mut i = 8;
-    while i < BLOCK {
-        put_word(block, i, 0);
-        i += 4;
-    }
-}
-
 // Makes a block fresh: no place holds a plan, nothing runs. Gives 0 or 27.
 pub fn fresh(block: &mut [u8]) -> u32
     ensures { (result ≡ modes_fresh_number block.old) × (block.new ≡ modes_fresh_block block.old) }
@@ -81,7 +69,7 @@ pub fn fresh(block: &mut [u8]) -> u32
     if block.len() != BLOCK {
         return 27;
     }
-    clear(block);
+    block.fill(0);
     put_places(block, PLACES, PLACES);
     0
 }
@@ -113,11 +101,11 @@ fn held_of(image: &[u8], first: u32, end: u32) -> HeldPlan
     }
 }
 
-// The tables of an accepted plan, behind the words taken so far. Gives the word after them; or 0, at which no plan's tables end, where the
-// words that are left do not suffice, and then no byte changes.
-fn lay(image: &[u8], used: u32, words: &mut [u8]) -> u32
+// The tables of an accepted plan, behind the words taken so far. Gives the word after them; none where the words that are left do not suffice,
+// and then no byte changes.
+fn lay(image: &[u8], used: u32, words: &mut [u8]) -> Option<u32>
     requires { answer_of image.now ≡ accepted }
-    ensures value { result ≡ cond (suffice (words_of words.old) (used + length (all_tables image.now))) (used + length (all_tables image.now)) 0 }
+    ensures value { result ≡ cond (suffice (words_of words.old) (used + length (all_tables image.now))) (Some (used + length (all_tables image.now))) None }
     ensures words_after { words.new ≡ cond (suffice (words_of words.old) (used + length (all_tables image.now))) (stored words.old (4 * used) (all_tables image.now)) words.old }
 {
     let mut charges = [0u32; lanes::CHARGES];
@@ -126,14 +114,14 @@ fn lay(image: &[u8], used: u32, words: &mut [u8]) -> u32
     let end = used as usize + words_of_all(image, &charges, &index);
     let all = words.len();
     if all / 4 < end {
-        return 0;
+        return None;
     }
     if end >= 4294967296 {
-        return 0;
+        return None;
     }
     let at = 4 * used as usize;
     write_all(image, &charges, &index, &mut words[at..all]);
-    end as u32
+    Some(end as u32)
 }
 
 // Holds a plan at a place: the image's questions, 43, then 26. Its tables are written behind the words taken so far, and the run ends. A refusal
@@ -146,18 +134,16 @@ pub fn hold(image: &[u8], place: u32, words: &mut [u8], block: &mut [u8]) -> Ans
     if block.len() != BLOCK {
         return refused(27);
     }
-    let checked = questions::check(image);
-    if checked.number != 0 {
-        return checked;
+    if let Err(no) = questions::ask(image) {
+        return no;
     }
     if place >= PLACES {
         return refused(43);
     }
     let used = word(block, 8);
-    let end = lay(image, used, words);
-    if end == 0 {
+    let Some(end) = lay(image, used, words) else {
         return refused(26);
-    }
+    };
     put_places(block, PLACES, PLACES);
     put_word(block, 8, end);
     put_plan(block, place, held_of(image, used, end));

@@ -5,8 +5,8 @@ use mathlib.Core.Bool.{Bool, true, false, ◌&&◌, ◌||◌, cond, true≢false
 use mathlib.Core.List.{List}
 use lib.Dec.{eqb}
 use Rattle.plan.specs.declared.Piece.{Piece}
-use Rattle.plan.specs.declared.Found.{Found}
-use Rattle.plan.specs.declared.Found.TheVariants.{At, Nothing}
+use Rattle.std.specs.Prelude.{Option}
+use Rattle.std.specs.Prelude.{Some, None}
 use Rattle.plan.specs.Dispatch.{Shown, show, piece_at, window_at, on_core}
 use Rattle.plan.specs.Image.{task, window, piece}
 use Rattle.guests.specs.Guests.{Sight, nothing, in_window, in_job, taken, sight_of, hides}
@@ -70,10 +70,10 @@ pub shows_idle : (s : List ℕ) (c x : ℕ) → sight_of s (on_core s c x) ≡ n
 unfolding of_window of_job
 shows_idle s c x e = go (window_at s c x) (piece_at s c x) refl refl
   where
-    go : (d r : Found) → window_at s c x ≡ d → piece_at s c x ≡ r → on_core s c x ≡ show 0 0
-    go d (At i) p q = absurd (true≢false (ap of_job (sym (piece_seen s c x i q) ∙ e)))
-    go (At w) Nothing p q = absurd (true≢false (ap of_window (sym (window_seen s c x w q p) ∙ e)))
-    go Nothing Nothing p q = core_idle s c x q p
+    go : (d r : Option ℕ) → window_at s c x ≡ d → piece_at s c x ≡ r → on_core s c x ≡ show 0 0
+    go d (Some i) p q = absurd (true≢false (ap of_job (sym (piece_seen s c x i q) ∙ e)))
+    go (Some w) None p q = absurd (true≢false (ap of_window (sym (window_seen s c x w q p) ∙ e)))
+    go None None p q = core_idle s c x q p
 
 -- ---- what is not hidden
 

@@ -130,10 +130,8 @@ fn send_all(image: &[u8], link: u32, list: &mut [u32]) -> Listing
         since: 0,
         until: 0,
     };
-    let mut frame: u32 = 0;
-    while frame < frames {
+    for frame in 0..frames {
         at = take_in(image, link, list, at, frame);
-        frame += 1;
     }
     at
 }

@@ -5,8 +5,8 @@ use mathlib.Core.Bool.{Bool}
 use mathlib.Core.List.{List, ◌∷◌, ◌++◌, []}
 use native.Mathlib.Omega.{arith}
 use Rattle.plan.specs.declared.Answer.{Answer}
-use Rattle.plan.specs.declared.Found.{Found}
-use Rattle.plan.specs.declared.Found.TheVariants.{At, Nothing}
+use Rattle.std.specs.Prelude.{Option}
+use Rattle.std.specs.Prelude.{Some, None}
 use Rattle.plan.specs.declared.Table.{Table}
 use Rattle.plan.specs.declared.Table.TheVariants.{Cores, Vcpus, Tasks, Windows, Pieces, Links, Streams, Frames, Buffers, Chains}
 use Rattle.plan.specs.Image.{shape, tables}
@@ -99,9 +99,9 @@ unfolding answer_to
 narrow_answer [] n = omega arith
 narrow_answer (q ∷ qs) n = go (first_no q.many q.ok) refl (narrow_answer qs n.1)
   where
-    go : (f : Found) → first_no q.many q.ok ≡ f → Small (answer_to qs) → Small (answer_to (q ∷ qs))
-    go (At r) e k = rw (e, answer_to) n.0
-    go Nothing e k = rw (e, answer_to) k
+    go : (f : Option ℕ) → first_no q.many q.ok ≡ f → Small (answer_to qs) → Small (answer_to (q ∷ qs))
+    go (Some r) e k = rw (e, answer_to) n.0
+    go None e k = rw (e, answer_to) k
 
 module _ (s : List ℕ) where
   pub answer_small : Small (answer_of s)

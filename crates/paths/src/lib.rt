@@ -71,12 +71,10 @@ fn from_task(image: &[u8], marks: &mut [u32], task: u32, goal: u32) -> bool
         return false;
     }
     let messages = message_count(image);
-    let mut message: u32 = 0;
-    while message < messages {
+    for message in 0..messages {
         if from_message(image, marks, task, message, goal) {
             return true;
         }
-        message += 1;
     }
     marks[task as usize] = 1;
     false

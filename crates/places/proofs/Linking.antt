@@ -3,7 +3,7 @@ use Prim.Native.Nat.{ℕ, suc, ◌+◌, ◌<◌, ◌≤◌}
 use mathlib.Core.Path.{◌≡◌, refl, sym, ap, ◌∙◌}
 use mathlib.Core.Logic.{◌⊎◌, inl, inr, ◌≢◌}
 use mathlib.Core.List.{List}
-use native.Mathlib.Nat.{not-suc-le-zero, eq-or-lt_of_le, le_of_suc-le-suc}
+use native.Mathlib.Nat.{eq-or-lt_of_le}
 use native.Mathlib.Omega.{arith}
 use native.Mathlib.Decide.{ℕ_discrete}
 use lib.ListN.{length, get_or, set, length-set}
@@ -43,22 +43,8 @@ base_small Frame = omega arith
 
 -- ---- no rows
 
-pub cleared_none : (base many : ℕ) (index : List ℕ) → length index ≡ index_words → Cleared base many index 0
-cleared_none base many index e = record { size = e; firsts = λ c l. absurd (not-suc-le-zero l) }
-
-pub cleared_more : (base many : ℕ) (index : List ℕ) (n : ℕ) → base + n < index_words → Cleared base many index n → Cleared base many (set index (base + n) many) (suc n)
-cleared_more base many index n l h =
-    record { size = length-set index (base + n) many ∙ h.size; firsts = λ c k. go c (eq-or-lt_of_le (le_of_suc-le-suc k)) }
-  where
-    go : (c : ℕ) → (c ≡ n) ⊎ (c < n) → get_or (set index (base + n) many) (base + c) 0 ≡ many
-    go c (inl e) = rw e (get_or-set_same index (base + n) many 0 (omega (arith, h.size)))
-    go c (inr k) = get_or-set_other index (base + n) (base + c) many 0 (λ e. absurd (omega arith)) ∙ h.firsts c k
-
 pub kept_both : {base part : ℕ} (a b c : List ℕ) → base ≡ part → Untouched base a b → Untouched part b c → Untouched part a c
 kept_both a b c e f g k l = g k l ∙ f k (omega arith)
-
-pub kept_over : (base : ℕ) (before index : List ℕ) (n x : ℕ) → Untouched base before index → Untouched base before (set index (base + n) x)
-kept_over base before index n x h k l = get_or-set_other index (base + n) k x 0 (λ e. absurd (omega arith)) ∙ h k l
 
 -- ---- rows taken in
 

@@ -93,11 +93,7 @@ fn clear(index: &mut [u32], base: usize, rows: u32)
     requires { (length index.old ≡ index_words) × (base ≤ frames_at) }
     ensures { Cleared base rows index.new most_places × Untouched base index.old index.new }
 {
-    let mut place: usize = 0;
-    while place < PLACES {
-        index[base + place] = rows;
-        place += 1;
-    }
+    index[base..base + PLACES].fill(rows);
 }
 
 // Puts a row before those of its place.
@@ -117,9 +113,8 @@ fn link_rows(image: &[u8], index: &mut [u32], occupant: Occupant)
     ensures { Linked image.now occupant index.new 0 × Untouched (base_of occupant) index.old index.new }
 {
     let base = base_of(occupant);
-    let mut row = rows_of(image, table_for(occupant));
-    while 0 < row {
-        row -= 1;
+    let rows = rows_of(image, table_for(occupant));
+    for row in (0..rows).rev() {
         let place = place_of(image, occupant, row);
         link(index, base, place as usize, row as usize);
     }
@@ -145,7 +140,7 @@ pub fn gather(image: &[u8], index: &mut [u32])
     gather_part(image, index, Occupant::Frame);
 }
 
-// The lowest row of a place, or the number of rows.
+// The lowest row of a place, or the number of rows: a number, no Option, since `NextRow` says so of the words.
 pub fn first_at(image: &[u8], index: &[u32], occupant: Occupant, place: u32) -> u32
     requires { Indexed image.now index.now × (place < most_places) }
     ensures { NextRow image.now occupant place 0 result }

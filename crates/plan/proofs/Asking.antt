@@ -8,8 +8,8 @@ use native.Mathlib.Nat.{not-suc-le-zero, eq-or-lt_of_le, le_of_suc-le-suc}
 use native.Mathlib.Omega.{arith}
 use lib.ListN.{length}
 use Rattle.plan.specs.declared.Answer.{Answer}
-use Rattle.plan.specs.declared.Found.{Found}
-use Rattle.plan.specs.declared.Found.TheVariants.{At, Nothing}
+use Rattle.std.specs.Prelude.{Option}
+use Rattle.std.specs.Prelude.{Some, None}
 use Rattle.plan.specs.Search.{first_no}
 use Rattle.plan.specs.Image.{shape, rows}
 use Rattle.plan.specs.Questions.{Question, question_at, each, answer_to, accepted}
@@ -22,11 +22,11 @@ pub passed_none : (qs : List Question) → Passed qs 0
 passed_none qs j l = absurd (not-suc-le-zero l)
 
 pub passed_more : (qs : List Question) (i : ℕ) → Passed qs i
-    → first_no (question_at qs i).many (question_at qs i).ok ≡ Nothing → Passed qs (suc i)
+    → first_no (question_at qs i).many (question_at qs i).ok ≡ None → Passed qs (suc i)
 passed_more qs i h e j l = pick (eq-or-lt_of_le (le_of_suc-le-suc l))
   where
-    pick : (j ≡ i) ⊎ (j < i) → first_no (question_at qs j).many (question_at qs j).ok ≡ Nothing
-    pick (inl q) = subst (λ (x : ℕ). first_no (question_at qs x).many (question_at qs x).ok ≡ Nothing) (sym q) e
+    pick : (j ≡ i) ⊎ (j < i) → first_no (question_at qs j).many (question_at qs j).ok ≡ None
+    pick (inl q) = subst (λ (x : ℕ). first_no (question_at qs x).many (question_at qs x).ok ≡ None) (sym q) e
     pick (inr q) = h j q
 
 -- of a list without its first question
@@ -34,13 +34,13 @@ passed_tail : (q : Question) (qs : List Question) (i : ℕ) → Passed (q ∷ qs
 unfolding question_at
 passed_tail q qs i h j l = h (suc j) (omega arith)
 
-head_passed : (q : Question) (qs : List Question) (i : ℕ) → Passed (q ∷ qs) (suc i) → first_no q.many q.ok ≡ Nothing
+head_passed : (q : Question) (qs : List Question) (i : ℕ) → Passed (q ∷ qs) (suc i) → first_no q.many q.ok ≡ None
 unfolding question_at
 head_passed q qs i h = h 0 (omega arith)
 
 -- the first question that a row says no to gives the answer
 pub passed_stops : (qs : List Question) (i r : ℕ) → Passed qs i → i < length qs
-    → first_no (question_at qs i).many (question_at qs i).ok ≡ At r → answer_to qs ≡ named (question_at qs i) r
+    → first_no (question_at qs i).many (question_at qs i).ok ≡ Some r → answer_to qs ≡ named (question_at qs i) r
 unfolding question_at
 passed_stops [] i r h l e = absurd (not-suc-le-zero l)
 passed_stops (q ∷ qs) zero r h l e = a_row q qs r e
@@ -67,19 +67,19 @@ unfolding answer_to named
 then_asked [] qs g e = refl
 then_asked (p ∷ ps) qs g e = go (first_no p.many p.ok) refl (λ k. then_asked ps qs g.1 k)
   where
-    go : (f : Found) → first_no p.many p.ok ≡ f → ((answer_to ps).number ≡ 0 → answer_to (ps ++ qs) ≡ answer_to qs) → answer_to (p ∷ (ps ++ qs)) ≡ answer_to qs
-    go Nothing d k = no_row p (ps ++ qs) d ∙ k (sym (ap (λ (a : Answer). a.number) (no_row p ps d)) ∙ e)
-    go (At r) d k = absurd (let z : p.asked ≡ 0 = sym (ap (λ (a : Answer). a.number) (a_row p ps r d)) ∙ e in let w = g.0 in omega arith)
+    go : (f : Option ℕ) → first_no p.many p.ok ≡ f → ((answer_to ps).number ≡ 0 → answer_to (ps ++ qs) ≡ answer_to qs) → answer_to (p ∷ (ps ++ qs)) ≡ answer_to qs
+    go None d k = no_row p (ps ++ qs) d ∙ k (sym (ap (λ (a : Answer). a.number) (no_row p ps d)) ∙ e)
+    go (Some r) d k = absurd (let z : p.asked ≡ 0 = sym (ap (λ (a : Answer). a.number) (a_row p ps r d)) ∙ e in let w = g.0 in omega arith)
 
 pub stopped_first : (ps qs : List Question) → ((answer_to ps).number ≡ 0 → ⊥) → answer_to (ps ++ qs) ≡ answer_to ps
 unfolding answer_to
 stopped_first [] qs h = absurd (h refl)
 stopped_first (p ∷ ps) qs h = go (first_no p.many p.ok) refl (λ k. stopped_first ps qs k)
   where
-    go : (f : Found) → first_no p.many p.ok ≡ f → (((answer_to ps).number ≡ 0 → ⊥) → answer_to (ps ++ qs) ≡ answer_to ps)
+    go : (f : Option ℕ) → first_no p.many p.ok ≡ f → (((answer_to ps).number ≡ 0 → ⊥) → answer_to (ps ++ qs) ≡ answer_to ps)
         → answer_to (p ∷ (ps ++ qs)) ≡ answer_to (p ∷ ps)
-    go Nothing d k = no_row p (ps ++ qs) d ∙ k (λ z. h (ap (λ (a : Answer). a.number) (no_row p ps d) ∙ z)) ∙ sym (no_row p ps d)
-    go (At r) d k = a_row p (ps ++ qs) r d ∙ sym (a_row p ps r d)
+    go None d k = no_row p (ps ++ qs) d ∙ k (λ z. h (ap (λ (a : Answer). a.number) (no_row p ps d) ∙ z)) ∙ sym (no_row p ps d)
+    go (Some r) d k = a_row p (ps ++ qs) r d ∙ sym (a_row p ps r d)
 
 -- an answer of 0 passes every question
 pub passed_of : (qs : List Question) → Real qs → (answer_to qs).number ≡ 0 → Passed qs (length qs)
@@ -87,13 +87,13 @@ unfolding question_at named
 passed_of [] g e = λ j l. absurd (not-suc-le-zero l)
 passed_of (q ∷ qs) g e = go (first_no q.many q.ok) refl (λ k. passed_of qs g.1 k)
   where
-    each : first_no q.many q.ok ≡ Nothing → Passed qs (length qs) → Passed (q ∷ qs) (suc (length qs))
+    each : first_no q.many q.ok ≡ None → Passed qs (length qs) → Passed (q ∷ qs) (suc (length qs))
     each d k zero l = d
     each d k (suc j) l = k j (le_of_suc-le-suc l)
 
-    go : (f : Found) → first_no q.many q.ok ≡ f → ((answer_to qs).number ≡ 0 → Passed qs (length qs)) → Passed (q ∷ qs) (suc (length qs))
-    go Nothing d k = each d (k (sym (ap (λ (a : Answer). a.number) (no_row q qs d)) ∙ e))
-    go (At r) d k = absurd (let z : q.asked ≡ 0 = sym (ap (λ (a : Answer). a.number) (a_row q qs r d)) ∙ e in let w = g.0 in omega arith)
+    go : (f : Option ℕ) → first_no q.many q.ok ≡ f → ((answer_to qs).number ≡ 0 → Passed qs (length qs)) → Passed (q ∷ qs) (suc (length qs))
+    go None d k = each d (k (sym (ap (λ (a : Answer). a.number) (no_row q qs d)) ∙ e))
+    go (Some r) d k = absurd (let z : q.asked ≡ 0 = sym (ap (λ (a : Answer). a.number) (a_row q qs r d)) ∙ e in let w = g.0 in omega arith)
 
 -- what holds of each of k numbers from a on
 abbrev pub Each : (ℕ → Type 0) → ℕ → ℕ → Type 0
@@ -109,14 +109,14 @@ between P a (suc k) h n l m = pick (eq-or-lt_of_le l) (λ q. between P (suc a) k
     pick (inr q) k' = k' q
 
 -- the answer of a loop that stops at row r of question i
-pub stopped_at : (qs : List Question) (i r n t : ℕ) → Passed qs i → i < length qs → first_no (question_at qs i).many (question_at qs i).ok ≡ At r
+pub stopped_at : (qs : List Question) (i r n t : ℕ) → Passed qs i → i < length qs → first_no (question_at qs i).many (question_at qs i).ok ≡ Some r
     → (question_at qs i).asked ≡ n → (question_at qs i).table ≡ t → record { number = n; table = t; row = r } ≡ answer_to qs
 unfolding named
 stopped_at qs i r n t h l e a b = sym (passed_stops qs i r h l e ∙ (rw (a, b) refl))
 
 -- the same, of a question that is told by its number and table
 pub refused_at : (qs : List ℕ → List Question) (s : List ℕ) (i r : ℕ) (a : Asked) → Listed qs i a → Passed (qs s) i → i < length (qs s)
-    → refusing (question_at (qs s) i) ≡ At r → record { number = a.number; table = (shape a.table).number; row = r } ≡ answer_to (qs s)
+    → refusing (question_at (qs s) i) ≡ Some r → record { number = a.number; table = (shape a.table).number; row = r } ≡ answer_to (qs s)
 unfolding each
 refused_at qs s i r a k h l e =
     stopped_at (qs s) i r a.number (shape a.table).number h l e (ap (λ (q : Question). q.asked) (k s)) (ap (λ (q : Question). q.table) (k s))

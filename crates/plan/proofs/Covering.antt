@@ -5,7 +5,7 @@ use mathlib.Core.Bool.{Bool, true, ◌&&◌}
 use native.Mathlib.Omega.{arith}
 use lib.Dec.{leb, ltb, eqb}
 use borrow.Author.Tests.{eqb-true, eq-eqb, ltb-true, leb-true, lt-ltb, le-leb}
-use Rattle.plan.specs.declared.Found.TheVariants.{At}
+use Rattle.std.specs.Prelude.{Some}
 use Rattle.plan.specs.Search.{first, Interval}
 use Rattle.plan.specs.Reading.{Apart}
 use Rattle.plan.proofs.Searching.{and_true, first_at, first_is}
@@ -31,7 +31,7 @@ module _ (n : ℕ) (place from to : ℕ → ℕ) where
   in_covers : {c x i : ℕ} → Covering c x i → Covers c x i ≡ true
   in_covers {c} {x} {i} h = rw (eq-eqb (place i) c h.at_place, le-leb (from i) x h.low, lt-ltb x (to i) h.high) refl
 
-  pub found_covers : (c x i : ℕ) → first n (Covers c x) ≡ At i → Covering c x i
+  pub found_covers : (c x i : ℕ) → first n (Covers c x) ≡ Some i → Covering c x i
   found_covers c x i e = let p = first_at (Covers c x) n i e in covers_in c x i p.0 p.1
 
   abbrev Ticks : ℕ → Interval
@@ -42,5 +42,5 @@ module _ (n : ℕ) (place from to : ℕ → ℕ) where
     pub covers_apart : {c x i j : ℕ} → j < i → Covering c x j → Covering c x i → ⊥
     covers_apart {c} {x} {i} {j} l a b = no_tick (Ticks j) (Ticks i) x (clear i b.row j l (a.at_place ∙ sym b.at_place)) (a.low, a.high) (b.low, b.high)
 
-    pub covers_found : {c x i : ℕ} → Covering c x i → first n (Covers c x) ≡ At i
+    pub covers_found : {c x i : ℕ} → Covering c x i → first n (Covers c x) ≡ Some i
     covers_found {c} {x} {i} h = first_is (Covers c x) n i h.row (in_covers h) (λ j l e. covers_apart l (covers_in c x j (omega (arith, h.row)) e) h)

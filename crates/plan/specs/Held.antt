@@ -7,8 +7,8 @@ use Rattle.plan.specs.Reading.{Names, InOrder, InRange, QueueFits}
 use Rattle.plan.specs.Search.{first_no}
 use Rattle.plan.specs.Questions.{Question, question_at, each}
 use Rattle.plan.specs.declared.Asked.{Asked}
-use Rattle.plan.specs.declared.Found.{Found}
-use Rattle.plan.specs.declared.Found.TheVariants.{Nothing}
+use Rattle.std.specs.Prelude.{Option}
+use Rattle.std.specs.Prelude.{None}
 
 -- 1 and 3: the trailer and every table lie in the image, and row counts are in bounds
 pub record InImage (s : List ℕ) : Type 0 where
@@ -32,12 +32,12 @@ abbrev pub Queued : List ℕ → Type 0
 Queued s = (m : ℕ) → m < rows s Streams → QueueFits s m
 
 -- the lowest row that says no to a question
-abbrev pub refusing : Question → Found
+abbrev pub refusing : Question → Option ℕ
 refusing q = first_no q.many q.ok
 
 -- no row says no to any of the first i questions of a list
 abbrev pub Passed : List Question → ℕ → Type 0
-Passed qs i = (j : ℕ) → j < i → refusing (question_at qs j) ≡ Nothing
+Passed qs i = (j : ℕ) → j < i → refusing (question_at qs j) ≡ None
 
 -- of every image, question i of a list has this number and asks each row of this table
 abbrev pub Listed : (List ℕ → List Question) → ℕ → Asked → Type 0

@@ -12,6 +12,7 @@ use draftwords::{
 use totals::is_draft;
 
 // The number of a reading, and the total read: 0 where it is refused.
+// No `Result`: crate reaperdecade takes both numbers out of it, as `core_number` and `core_value` name them, and `job_number` and `job_value`.
 #[derive(Clone, Copy)]
 pub struct Total {
     pub number: u32,
@@ -55,14 +56,10 @@ pub fn stored_total(words: &[u32], task: u32, job: u32) -> u32
     requires { draft_words ≤ length words.now }
     ensures { result ≡ stored_total words.now task job }
 {
-    let mut place: u32 = 0;
-    while place < PLACES {
-        if is_of(words, place, task, job) {
-            return total_at(words, place);
-        }
-        place += 1;
+    match searching::first_no(PLACES, |place| !is_of(words, place, task, job)) {
+        Some(place) => total_at(words, place),
+        None => 0,
     }
-    0
 }
 
 // Reads the total of a job: 33, 5, then 10.

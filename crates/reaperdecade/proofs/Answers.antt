@@ -1,7 +1,7 @@
 -- The answers to a build of all tables, to a gate list, to holding a plan and to a join are small as well.
 use Prim.Native.Nat.{ℕ}
 use mathlib.Core.Bool.{Bool, true, false, cond}
-use mathlib.Core.List.{List, ◌++◌, []}
+use mathlib.Core.List.{List, []}
 use native.Mathlib.Omega.{arith}
 use Rattle.plan.specs.Questions.{whole, questions}
 use Rattle.gates.specs.Gates.{gate_answer}

@@ -18,7 +18,7 @@ use joining::join;
 use packing::packed;
 use plan::{LaneState, Piece};
 use readings::Total;
-use records::{move_all, move_record, number_of, refused_number};
+use records::{move_record, number_of, step_all};
 use states::{STATE, put_state};
 
 // Starts a lane: tick 0 of a cycle, with its table at a first word. Gives 0, or 27 for a state of another length than 28,
@@ -56,12 +56,7 @@ pub extern "C" fn rd_step(words: &[u8], state: &mut [u8]) -> u32
 pub extern "C" fn rd_step_all(words: &[u8], states: &mut [u8]) -> u32
     ensures { (result ≡ step_all_number words.now states.old) × (states.new ≡ step_all_bytes words.now states.old) }
 {
-    let lowest = refused_number(words, states);
-    if lowest != 0 {
-        return lowest;
-    }
-    move_all(words, states);
-    0
+    step_all(words, states)
 }
 
 // Makes a block of modes fresh: no place holds a plan, nothing runs. Gives 0, or 27 for a block of another length than 172, which stays as it was.

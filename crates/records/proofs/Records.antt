@@ -4,13 +4,14 @@ use Prim.Native.Nat.{ℕ, zero, suc, ◌+◌, ◌*◌, ◌/◌, ◌≤◌, ◌<�
 use mathlib.Core.Path.{◌≡◌, refl, sym, ap, ◌∙◌}
 use mathlib.Core.Logic.{◌≢◌}
 use mathlib.Core.Bool.{Bool, true, false, cond}
-use mathlib.Core.List.{List, ◌∷◌, ◌++◌, [], flat_map}
+use mathlib.Core.List.{List, ◌∷◌, ◌++◌, [], flat_map, append-nil}
 use native.Mathlib.Omega.{arith}
 use lib.Dec.{eqb}
 use borrow.Author.Tests.{eq-eqb, ne_eqb, eqb-true}
-use lib.ListN.{length, take, drop, length-take, length-drop, drop_of_length-le}
+use lib.ListN.{length, take, drop, length-take, length-drop, length-append, drop_of_length-le}
+use Rattle.std.specs.Prelude.{min}
 use borrow.Rule.Slice.PartMut.{put_mid}
-use lib.Seq.{drop-drop, take-add, take_all}
+use lib.Seq.{drop-drop, take-add, take_all, take_at, drop_at}
 use Rattle.plan.specs.Dispatch.{step, start_state}
 use Rattle.plan.specs.Boundary.{words_of, state_of, state_bytes, start_number, start_bytes, step_number, step_bytes, first_records, records_of, refused_number, step_all_number, step_all_bytes}
 use Rattle.states.proofs.Bytes.{state_length}
@@ -90,24 +91,31 @@ module _ (ws b : List ℕ) where
       go true e k = (eqb-true (step_number ws (take 28 b)) 0 e, k)
       go false e k = absurd (let z = sym e ∙ eq-eqb (step_number ws (take 28 b)) 0 k in let y : ◌≡◌ {A = ℕ} 0 1 = cc in omega arith)
 
--- ---- the records before byte i are tried, and none is refused
+-- ---- the records before those of b are tried, and none is refused; b is the next one, x, and the rest
 
-module _ (ws b : List ℕ) (i : ℕ) (before : step_all_number ws b ≡ step_all_number ws (drop i b)) where
-  pub refused_at : i < length b → step_number ws (take 28 (drop i b)) ≢ 0 → step_number ws (take 28 (drop i b)) ≡ step_all_number ws b
-  refused_at l h =
-      let k : 0 < length (drop i b) = rw (length-drop i b) (omega arith) in
-      sym (before ∙ next ws (drop i b) k ∙ (rw (ne_eqb (step_number ws (take 28 (drop i b))) 0 h) refl))
+-- 28 bytes come off the front, or all that are left
+module _ (x rest : List ℕ) (size : length x ≡ min 28 (length (x ++ rest))) where
+  cut : take 28 (x ++ rest) ≡ x
+  cut = go rest size
+    where
+      go : (r : List ℕ) → length x ≡ min 28 (length (x ++ r)) → take 28 (x ++ r) ≡ x
+      go [] e = rw append-nil (take_all 28 x (omega (arith, e)))
+      go (y ∷ r) e = take_at x (y ∷ r) 28 (omega (arith, e, length-append x (y ∷ r)))
 
-  pub fits_at : i < length b → step_number ws (take 28 (drop i b)) ≡ 0 → (i + 28 ≤ length b) × (step_all_number ws b ≡ step_all_number ws (drop (i + 28) b))
-  fits_at l h =
-      let k : 0 < length (drop i b) = rw (length-drop i b) (omega arith) in
-      let n = whole ws (take 28 (drop i b)) h in (
-        omega (arith, length-take 28 (drop i b), length-drop i b),
-        before ∙ next ws (drop i b) k ∙ (rw (eq-eqb (step_number ws (take 28 (drop i b))) 0 h) (ap (step_all_number ws) (drop-drop 28 i b))),
-      )
+  module _ (ws b : List ℕ) (split : b ≡ x ++ rest) (some : 0 < length b) where
+    first : take 28 b ≡ x
+    first = rw split cut
 
-  pub all_fit : length b ≤ i → 0 ≡ step_all_number ws b
-  all_fit l = sym (before ∙ none_left ws (drop i b) (rw (length-drop i b) (omega arith)))
+    pub refused_at : step_number ws x ≢ 0 → step_number ws x ≡ step_all_number ws b
+    refused_at h = sym (next ws b some ∙ (rw (first, ne_eqb (step_number ws x) 0 h) refl))
+
+    pub fits_at : step_number ws x ≡ 0 → step_all_number ws b ≡ step_all_number ws rest
+    fits_at h =
+        let d : drop 28 b ≡ rest = rw split (drop_at x rest 28 (whole ws x h)) in
+        next ws b some ∙ (rw (first, eq-eqb (step_number ws x) 0 h, d) refl)
+
+pub all_fit : (ws b : List ℕ) → length b ≡ 0 → 0 ≡ step_all_number ws b
+all_fit ws b e = sym (none_left ws b (omega arith))
 
 -- ---- the records before byte i are moved
 

@@ -101,29 +101,26 @@ pub fn move_record(words: &[u8], bytes: &mut [u8])
     put_state(bytes, next);
 }
 
-// The number of a step of the record that begins at byte i.
-fn number_at(words: &[u8], states: &[u8], i: usize) -> u32
-    requires { i ≤ length states.now }
-    ensures { result ≡ step_number words.now (take 28 (drop i states.now)) }
+// The number of a step of a record that may be cut short.
+fn number_at(words: &[u8], bytes: &[u8]) -> u32
+    requires { length bytes.now ≤ 28 }
+    ensures { result ≡ step_number words.now bytes.now }
 {
-    if states.len() - i < STATE {
+    if bytes.len() < STATE {
         return 27;
     }
-    let end = i + STATE;
-    number_of(words, &states[i..end])
+    number_of(words, bytes)
 }
 
 // The number of the lowest record that is refused, or 0.
 pub fn refused_number(words: &[u8], states: &[u8]) -> u32
     ensures { result ≡ step_all_number words.now states.now }
 {
-    let mut i = 0;
-    while i < states.len() {
-        let number = number_at(words, states, i);
+    for bytes in states.chunks(STATE) {
+        let number = number_at(words, bytes);
         if number != 0 {
             return number;
         }
-        i += STATE;
     }
     0
 }
@@ -133,11 +130,8 @@ pub fn move_all(words: &[u8], states: &mut [u8])
     requires { step_all_number words.now states.old ≡ 0 }
     ensures { states.new ≡ step_all_bytes words.now states.old }
 {
-    let mut i = 0;
-    while i < states.len() {
-        let end = i + STATE;
-        move_record(words, &mut states[i..end]);
-        i = end;
+    for i in (0..states.len()).step_by(STATE) {
+        move_record(words, &mut states[i..i + STATE]);
     }
 }
 

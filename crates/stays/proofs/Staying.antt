@@ -7,9 +7,9 @@ use native.Mathlib.Omega.{arith}
 use native.Mathlib.Decide.{ℕ_discrete}
 use lib.ListN.{length, get_or, set}
 use borrow.Author.Tests.{eq-eqb, ne_eqb}
-use Rattle.plan.specs.declared.Found.TheVariants.{At, Nothing}
+use Rattle.std.specs.Prelude.{Some, None}
 use Rattle.plan.specs.declared.Table.TheVariants.{Links, Frames}
-use Rattle.plan.specs.Image.{rows, shape, frame, stream, link}
+use Rattle.plan.specs.Image.{rows, shape, frame, stream}
 use Rattle.plan.specs.Search.{first_no}
 use Rattle.plan.specs.Questions.{frame_end, across, of_hop, frame_of, last_end, queue_of, over_from, stay_from, stay, stay_clear}
 use Rattle.plan.specs.Reading.{Apart}
@@ -96,11 +96,11 @@ module _ (s times index : List ℕ) (w : Waited s times index) where
     unfolding stay
     place_inside = Latest.place_inside (queue_place s) (stay s) (stay_clear s) (rows s Frames) most_queues reads near placed ends r l k
 
-    pub clash : first_no r (stay_clear s) ≡ Nothing → stay_from s r < get_or ends (queue_place s r) 0 → At r ≡ first_no (rows s Frames) (stay_clear s)
+    pub clash : first_no r (stay_clear s) ≡ None → stay_from s r < get_or ends (queue_place s r) 0 → Some r ≡ first_no (rows s Frames) (stay_clear s)
     unfolding stay
     clash = Latest.clash (queue_place s) (stay s) (stay_clear s) (rows s Frames) most_queues reads near placed ends r l k
 
-    pub clear_on : first_no r (stay_clear s) ≡ Nothing → get_or ends (queue_place s r) 0 ≤ stay_from s r → first_no (r + 1) (stay_clear s) ≡ Nothing
+    pub clear_on : first_no r (stay_clear s) ≡ None → get_or ends (queue_place s r) 0 ≤ stay_from s r → first_no (r + 1) (stay_clear s) ≡ None
     unfolding stay
     clear_on = Latest.clear_on (queue_place s) (stay s) (stay_clear s) (rows s Frames) most_queues reads near placed ends r l k
 

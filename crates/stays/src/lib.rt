@@ -12,7 +12,7 @@ ghost use Rattle.tallies.specs.Tallies.{Kept};
 ghost use Rattle.stays.specs.Queues.{most_queues, queue_place, Waited};
 
 use messages::stay_from;
-use plan::{Found, Link, Table};
+use plan::{Link, Table};
 use tables::{frame_at, rows_of};
 use tallies::raise;
 use terms::{frame_end, queue_of};
@@ -32,30 +32,28 @@ fn place_of(image: &[u8], frame: u32) -> u32
 }
 
 // The lowest frame that clashes, with a word for each place: the latest end there, 0 at first.
-fn clash_after(image: &[u8], times: &[u32], index: &[u32], ends: &mut [u64]) -> Found
+fn clash_after(image: &[u8], times: &[u32], index: &[u32], ends: &mut [u64]) -> Option<u32>
     requires { Waited image.now times.now index.now × Kept ends.old 0 most_queues (λ _. 0) }
     ensures { result ≡ first_no (rows image.now Frames) (stay_clear image.now) }
 {
     let frames = rows_of(image, Table::Frames);
-    let mut frame: u32 = 0;
-    while frame < frames {
+    for frame in 0..frames {
         let place = place_of(image, frame);
         if stay_from(image, times, index, frame) < ends[place as usize] {
-            return Found::At(frame);
+            return Some(frame);
         }
         raise(ends, place, frame_end(image, frame));
-        frame += 1;
     }
-    Found::Nothing
+    None
 }
 
 // The lowest frame whose stay shares a tick with that of a lower one in its queue. Without frames no word is needed.
-pub fn first_clash(image: &[u8], times: &[u32], index: &[u32]) -> Found
+pub fn first_clash(image: &[u8], times: &[u32], index: &[u32]) -> Option<u32>
     requires { Waited image.now times.now index.now }
     ensures { result ≡ first_no (rows image.now Frames) (stay_clear image.now) }
 {
     if rows_of(image, Table::Frames) == 0 {
-        return Found::Nothing;
+        return None;
     }
     let mut ends = [0u64; PLACES];
     clash_after(image, times, index, &mut ends)

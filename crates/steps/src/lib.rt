@@ -30,13 +30,13 @@ fn look_up(words: &[u32], state: LaneState) -> Lookup
     let next = word_at(words, at + 3);
     let inside = first + 2 + 3 * entries as usize <= words.len();
     Lookup {
-        inside: inside,
-        ticks: ticks,
-        entries: entries,
-        begin: begin,
-        kind: kind,
-        row: row,
-        next: next,
+        inside,
+        ticks,
+        entries,
+        begin,
+        kind,
+        row,
+        next,
     }
 }
 
@@ -62,19 +62,15 @@ pub fn step_lane(words: &[u32], lane: &mut LaneState) -> u32
 pub fn step_all(words: &[u32], lanes: &mut [LaneState]) -> u32
     ensures { (result ≡ refusal words.now lanes.old) × (lanes.new ≡ step_all words.now lanes.old) }
 {
-    let mut i = 0;
-    while i < lanes.len() {
-        let stepped = step(words, lanes[i]);
+    for lane in lanes.iter() {
+        let stepped = step(words, *lane);
         if stepped.number != 0 {
             return stepped.number;
         }
-        i += 1;
     }
-    i = 0;
-    while i < lanes.len() {
-        let stepped = step(words, lanes[i]);
-        lanes[i] = stepped.state;
-        i += 1;
+    for lane in lanes.iter_mut() {
+        let stepped = step(words, *lane);
+        *lane = stepped.state;
     }
     0
 }

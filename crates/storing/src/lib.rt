@@ -6,7 +6,7 @@ ghost use Rattle.writing.specs.Stored.{Built};
 ghost use Rattle.writing.specs.AllTables.{BuiltAll};
 
 use lanes::lane_count;
-use plan::Answer;
+use plan::{Answer, refused};
 use writing::{fill, fill_all};
 
 // Builds a lane's table: asks the check's questions, then 25 and 26, and writes H, n and the entries from byte 0 on. Later bytes, and all bytes
@@ -14,16 +14,11 @@ use writing::{fill, fill_all};
 pub fn build(image: &[u8], lane: u32, bytes: &mut [u8]) -> Answer
     ensures { Built image.now lane bytes.old result bytes.new }
 {
-    let answer = questions::check(image);
-    if answer.number != 0 {
-        return answer;
+    if let Err(no) = questions::ask(image) {
+        return no;
     }
     if lane_count(image) <= lane {
-        return Answer {
-            number: 25,
-            table: 0,
-            row: 0,
-        };
+        return refused(25);
     }
     let mut charges = [0u32; lanes::CHARGES];
     let mut index = [0u32; lanes::INDEX];
@@ -36,9 +31,8 @@ pub fn build(image: &[u8], lane: u32, bytes: &mut [u8]) -> Answer
 pub fn build_all(image: &[u8], bytes: &mut [u8]) -> Answer
     ensures { BuiltAll image.now bytes.old result bytes.new }
 {
-    let checked = questions::check(image);
-    if checked.number != 0 {
-        return checked;
+    if let Err(refusal) = questions::ask(image) {
+        return refusal;
     }
     let mut charges = [0u32; lanes::CHARGES];
     let mut index = [0u32; lanes::INDEX];

@@ -6,7 +6,7 @@ use mathlib.Core.List.{List}
 use native.Mathlib.Omega.{arith}
 use lib.Dec.{ltb}
 use Rattle.plan.specs.declared.Table.TheVariants.{Cores}
-use Rattle.plan.specs.declared.Found.{Found}
+use Rattle.std.specs.Prelude.{Option}
 use Rattle.plan.specs.Image.{rows, cycle_ticks}
 use Rattle.plan.specs.Dispatch.{show, piece_at, window_at, frame_at, on_core, on_link, shown_at}
 use Rattle.plan.proofs.Facts.{Facts}
@@ -34,15 +34,15 @@ frame_shows s i x = go (ltb x 0)
     go false = refl
 
 module _ (s : List ℕ) (c t : ℕ) where
-  piece_at_holds : (x : ℕ) {d : Found} → taken_by s Piece c x ≡ d → piece_at s c x ≡ d
+  piece_at_holds : (x : ℕ) {d : Option ℕ} → taken_by s Piece c x ≡ d → piece_at s c x ≡ d
   unfolding taken_by covers table_for place_of from_of to_of piece_at
   piece_at_holds x e = e
 
-  window_at_holds : (x : ℕ) {d : Found} → taken_by s Window c x ≡ d → window_at s c x ≡ d
+  window_at_holds : (x : ℕ) {d : Option ℕ} → taken_by s Window c x ≡ d → window_at s c x ≡ d
   unfolding taken_by covers table_for place_of from_of to_of window_at
   window_at_holds x e = e
 
-  frame_at_holds : (x : ℕ) {d : Found} → taken_by s Frame c x ≡ d → frame_at s c x ≡ d
+  frame_at_holds : (x : ℕ) {d : Option ℕ} → taken_by s Frame c x ≡ d → frame_at s c x ≡ d
   unfolding taken_by covers table_for place_of from_of to_of frame_at
   frame_at_holds x e = e
 

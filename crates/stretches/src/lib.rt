@@ -14,14 +14,14 @@ ghost use Rattle.cursors.specs.Keeps.{Keeps};
 ghost use Rattle.stretches.specs.Stretches.{idle_stretch, piece_stretch, window_stretch, frame_stretch, segment_of, Ahead, Shows, Gathered, Sees};
 
 use charges::charge_at;
-use cursors::{Cursors, Near, move_on, nearest};
+use cursors::{Cursors, move_on, nearest};
 use places::Occupant;
 use plan::Table;
 use tables::{piece_at, rows_of, window_at};
-use tallies::lesser;
 use terms::{frame_end, switch_ticks};
 
-// What a lane shows for a while: one row, as kind `kind` before tick `turn` and as kind `later` from it on, up to tick `until`.
+// What a lane shows for a while: one row, as kind `kind` before tick `turn` and as kind `later` from it on, up to tick `until`. Kinds are the
+// numbers of the C interface.
 #[derive(Clone, Copy)]
 pub struct Stretch {
     pub kind: u32,
@@ -69,7 +69,7 @@ fn window_stretch(image: &[u8], charges: &[u32], window: u32, most: u32) -> Stre
         later: 2,
         row: window,
         turn: w.start + charge_at(image, charges, window),
-        until: lesser(w.start + w.length, most),
+        until: (w.start + w.length).min(most),
     }
 }
 
@@ -101,10 +101,10 @@ fn core_stretch(
     ensures { Shows (on_core image.now core) tick (cycle_ticks image.now) result }
 {
     match nearest(image, Occupant::Piece, core, tick, piece) {
-        Near::Taken(taken) => piece_stretch(image, taken),
-        Near::Free(next) => match nearest(image, Occupant::Window, core, tick, window) {
-            Near::Taken(around) => window_stretch(image, charges, around, next),
-            Near::Free(free) => idle_stretch(lesser(free, next)),
+        Ok(taken) => piece_stretch(image, taken),
+        Err(next) => match nearest(image, Occupant::Window, core, tick, window) {
+            Ok(around) => window_stretch(image, charges, around, next),
+            Err(free) => idle_stretch(free.min(next)),
         },
     }
 }
@@ -115,8 +115,8 @@ fn link_stretch(image: &[u8], link: u32, tick: u32, frame: u32) -> Stretch
     ensures { Shows (on_link image.now link) tick (cycle_ticks image.now) result }
 {
     match nearest(image, Occupant::Frame, link, tick, frame) {
-        Near::Taken(taken) => frame_stretch(image, taken),
-        Near::Free(free) => idle_stretch(free),
+        Ok(taken) => frame_stretch(image, taken),
+        Err(free) => idle_stretch(free),
     }
 }
 
@@ -224,7 +224,7 @@ pub fn segment_at(stretch: Stretch, tick: u32) -> Segment
         Segment {
             kind: stretch.kind,
             row: stretch.row,
-            until: lesser(stretch.turn, stretch.until),
+            until: stretch.turn.min(stretch.until),
         }
     } else {
         Segment {

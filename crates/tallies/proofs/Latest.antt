@@ -12,7 +12,7 @@ use native.Mathlib.Numerals.{add-one}
 use lib.ListN.{length, get_or, set}
 use lib.Dec.{leb}
 use borrow.Author.Tests.{le-leb, lt-leb}
-use Rattle.plan.specs.declared.Found.TheVariants.{At, Nothing}
+use Rattle.std.specs.Prelude.{Some, None}
 use Rattle.plan.specs.Search.{Interval, first_no}
 use Rattle.plan.specs.Reading.{Apart}
 use Rattle.plan.proofs.Shows.{bool_eq}
@@ -123,10 +123,10 @@ module _ (place : ℕ → ℕ) (iv : ℕ → Interval) (ok : ℕ → Bool) (n ma
     asked : ok r ≡ leb (get_or ends (place r) 0) (iv r).from
     asked = clear_latest r l ∙ ap (λ (x : ℕ). leb x (iv r).from) (sym (kept_at ends many (ends_before r) k (place r) (placed r l)))
 
-    pub clash : first_no r ok ≡ Nothing → (iv r).from < get_or ends (place r) 0 → At r ≡ first_no n ok
+    pub clash : first_no r ok ≡ None → (iv r).from < get_or ends (place r) 0 → Some r ≡ first_no n ok
     clash e d = sym (stops ok n r e l (asked ∙ lt-leb _ _ d))
 
-    pub clear_on : first_no r ok ≡ Nothing → get_or ends (place r) 0 ≤ (iv r).from → first_no (r + 1) ok ≡ Nothing
+    pub clear_on : first_no r ok ≡ None → get_or ends (place r) 0 ≤ (iv r).from → first_no (r + 1) ok ≡ None
     clear_on e d = rw add-one (turn_yes ok r e (asked ∙ le-leb _ _ d))
 
     pub ends_on : Kept (set ends (place r) (max (get_or ends (place r) 0) (iv r).to)) 0 many (ends_before (r + 1))

@@ -103,14 +103,7 @@ fn follows_another(image: &[u8], window: u32) -> bool
     ensures { result ≡ any (rows image.now Windows) (keeps_from image.now window) }
 {
     let windows = rows_of(image, Table::Windows);
-    let mut other: u32 = 0;
-    while other < windows {
-        if keeps_from(image, window, other) {
-            return true;
-        }
-        other += 1;
-    }
-    false
+    searching::any(windows, |other| keeps_from(image, window, other))
 }
 
 // A window's first ticks, which the VCPU switch takes: none where the window keeps its core. At tick 0 no window does.

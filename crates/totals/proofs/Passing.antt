@@ -15,6 +15,7 @@ use Rattle.plan.specs.Search.{all, count}
 use Rattle.plan.proofs.Searching.{and_true, all_yes, yes_all}
 use Rattle.plan.proofs.Tests.{or_cases, none_passes, none_counted}
 use Rattle.plan.proofs.Counting.{count_cong, count_or}
+use Rattle.std.specs.Prelude.{Option, Some, None, IfSome, is_some}
 use Rattle.tallies.specs.Tallies.{tally}
 use Rattle.tallies.proofs.Tallying.{tally_none, tally_at, tally_other, tally_sum}
 use Rattle.drafts.specs.Drafts.{draft_words, places, is_of, draft_cores, draft_tasks, head_in_range, task_in_range, is_draft, task_core, piece_at, rank_at, total_at, is_free, has_task, fits_job, job_sum, core_sum, rank, core_true, place_true}
@@ -162,18 +163,16 @@ module _ (w : List ℕ) where
   -- ---- the climb over the ranks
 
   abbrev taken : ℕ → Climb → Climb
-  taken r c =
-      record {
-        ok = c.ok && eqb c.seen r && (eqb r 0 || ltb (key c.last) (key (last_of w places r)));
-        seen = c.seen + count_of w places r;
-        last = last_of w places r;
-      }
+  taken r c = record { seen = c.seen + count_of w places r; last = last_of w places r }
 
-  climb_skip : (r : ℕ) (c : Climb) → count_of w places r ≡ 0 → climb_at w r c ≡ c
+  abbrev rises : ℕ → Climb → Bool
+  rises r c = eqb c.seen r && (eqb r 0 || ltb (key c.last) (key (last_of w places r)))
+
+  climb_skip : (r : ℕ) (c : Climb) → count_of w places r ≡ 0 → climb_at w r c ≡ Some c
   unfolding climb_at
   climb_skip r c e = rw (eq-eqb (count_of w places r) 0 e) refl
 
-  climb_take : (r : ℕ) (c : Climb) → count_of w places r ≢ 0 → climb_at w r c ≡ taken r c
+  climb_take : (r : ℕ) (c : Climb) → count_of w places r ≢ 0 → climb_at w r c ≡ cond (rises r c) (Some (taken r c)) None
   unfolding climb_at
   climb_take r c e = rw (ne_eqb (count_of w places r) 0 e) refl
 
@@ -182,24 +181,28 @@ module _ (w : List ℕ) where
     seen_is : c.seen ≡ lower n
     last_at : (lower n ≡ 0) ⊎ (Piece-at c.last × (rank_at w c.last < n))
 
-  counted : (n : ℕ) → n ≤ places → Counted n (climbed w n)
+  counted : (n : ℕ) → n ≤ places → IfSome (climbed w n) (Counted n)
   unfolding climbed
   counted zero l = record { seen_is = sym lower_none; last_at = inl lower_none }
-  counted (suc n) l = go (ℕ_discrete (count_of w places n) 0) (counted n (omega arith))
+  counted (suc n) l = go (climbed w n) (counted n (omega arith)) (ℕ_discrete (count_of w places n) 0)
     where
-      on : (lower n ≡ 0) ⊎ (Piece-at (climbed w n).last × (rank_at w (climbed w n).last < n)) → lower (suc n) ≡ lower n
-          → (lower (suc n) ≡ 0) ⊎ (Piece-at (climbed w n).last × (rank_at w (climbed w n).last < suc n))
-      on (inl z) e = inl (e ∙ z)
-      on (inr z) e = inr (z.0, omega (arith, z.1))
+      on : (c : Climb) → (lower n ≡ 0) ⊎ (Piece-at c.last × (rank_at w c.last < n)) → lower (suc n) ≡ lower n
+          → (lower (suc n) ≡ 0) ⊎ (Piece-at c.last × (rank_at w c.last < suc n))
+      on c (inl z) e = inl (e ∙ z)
+      on c (inr z) e = inr (z.0, omega (arith, z.1))
 
-      go : Dec (count_of w places n ≡ 0) → Counted n (climbed w n) → Counted (suc n) (climb_at w n (climbed w n))
-      go (yes e) k =
+      go : (o : Option Climb) → IfSome o (Counted n) → Dec (count_of w places n ≡ 0) → IfSome (elim o [ Some c ↦ climb_at w n c | None ↦ None ]) (Counted (suc n))
+      go None k d = tt
+      go (Some c) k (yes e) =
           let s : lower (suc n) ≡ lower n = omega (arith, lower_next n (omega arith)) in
-          rw (climb_skip n (climbed w n) e) (record { seen_is = k.seen_is ∙ sym s; last_at = on k.last_at s })
-      go (no e) k =
-          let m = last_is n (omega arith) e in
-          rw (climb_take n (climbed w n) e)
-          (record { seen_is = ap (λ (z : ℕ). z + count_of w places n) k.seen_is ∙ sym (lower_next n (omega arith)); last_at = inr (m.0, omega (arith, m.1)) })
+          rw (climb_skip n c e) (record { seen_is = k.seen_is ∙ sym s; last_at = on c k.last_at s })
+      go (Some c) k (no e) = rw (climb_take n c e) (choose (rises n c))
+        where
+          choose : (b : Bool) → IfSome (cond b (Some (taken n c)) None) (Counted (suc n))
+          choose true =
+              let m = last_is n (omega arith) e in
+              record { seen_is = ap (λ (z : ℕ). z + count_of w places n) k.seen_is ∙ sym (lower_next n (omega arith)); last_at = inr (m.0, omega (arith, m.1)) }
+          choose false = tt
 
   -- what a climb that is right shows
   record Shown (n : ℕ) (c : Climb) : Type 0 where
@@ -245,52 +248,57 @@ module _ (w : List ℕ) where
           high q a (inl e) = le_of_eq (of_rank_holds q a e)
           high q a (inr e) = let v = above q a e in omega arith
 
-    shown : (n : ℕ) → n ≤ places → (climbed w n).ok ≡ true → Shown n (climbed w n)
+    shown : (n : ℕ) → n ≤ places → IfSome (climbed w n) (Shown n)
     unfolding climbed
-    shown zero l e =
+    shown zero l =
         record { filled = λ p a m. absurd (not-suc-le-zero m); rising = λ p q a b m o. absurd (not-suc-le-zero o); highest = λ q a m. absurd (not-suc-le-zero m) }
-    shown (suc n) l e = go (ℕ_discrete (count_of w places n) 0) (shown n (omega arith)) (counted n (omega arith)) e
+    shown (suc n) l = go (climbed w n) (shown n (omega arith)) (counted n (omega arith)) (ℕ_discrete (count_of w places n) 0)
       where
         lower_still : (q : ℕ) → Piece-at q → count_of w places n ≡ 0 → rank_at w q < suc n → rank_at w q < n
         lower_still q a z m = let d = none_at n (omega arith) z q a in omega arith
 
-        go : Dec (count_of w places n ≡ 0) → ((climbed w n).ok ≡ true → Shown n (climbed w n)) → Counted n (climbed w n) → (climb_at w n (climbed w n)).ok ≡ true
-            → Shown (suc n) (climb_at w n (climbed w n))
-        go (yes z) k u o =
-            let s = k (ap (λ (c : Climb). c.ok) (sym (climb_skip n (climbed w n) z)) ∙ o) in
-            rw (climb_skip n (climbed w n) z)
+        go : (o : Option Climb) → IfSome o (Shown n) → IfSome o (Counted n) → Dec (count_of w places n ≡ 0) → IfSome (elim o [ Some c ↦ climb_at w n c | None ↦ None ]) (Shown (suc n))
+        go None s u d = tt
+        go (Some c) s u (yes z) =
+            rw (climb_skip n c z)
             (record {
               filled = λ p a m. s.filled p a (lower_still p a z m);
               rising = λ p q a b m v. s.rising p q a b m (lower_still p a z v);
               highest = λ q a m. s.highest q a (lower_still q a z m);
             })
-        go (no z) k u o =
-            let t : (taken n (climbed w n)).ok ≡ true = ap (λ (c : Climb). c.ok) (sym (climb_take n (climbed w n) z)) ∙ o in
-            let a = and_true ((climbed w n).ok && eqb (climbed w n).seen n) (eqb n 0 || ltb (key (climbed w n).last) (key (last_of w places n))) t in
-            let b = and_true (climbed w n).ok (eqb (climbed w n).seen n) a.0 in
-            rw (climb_take n (climbed w n) z) (take_shown n (omega arith) (climbed w n) z (k b.0) u b.1 a.1)
+        go (Some c) s u (no z) = rw (climb_take n c z) (choose (rises n c) refl)
+          where
+            choose : (b : Bool) → rises n c ≡ b → IfSome (cond b (Some (taken n c)) None) (Shown (suc n))
+            choose true e =
+                let a = and_true (eqb c.seen n) (eqb n 0 || ltb (key c.last) (key (last_of w places n))) e in
+                take_shown n (omega arith) c z s u a.0 a.1
+            choose false e = tt
+
+  climb_there : (n : ℕ) (o : Option Climb) → is_some o ≡ true → IfSome o (Shown n) → (c : Climb) × Shown n c
+  climb_there n None e h = absurd (true≢false (sym e))
+  climb_there n (Some c) e h = (c, h)
 
   -- true ranks are climbed
-  climbs : Seen places here (rank_at w) key long → (n : ℕ) → n ≤ places → (climbed w n).ok ≡ true
+  climbs : Seen places here (rank_at w) key long → (n : ℕ) → n ≤ places → is_some (climbed w n) ≡ true
   unfolding climbed
   climbs s zero l = refl
-  climbs s (suc n) l = go (ℕ_discrete (count_of w places n) 0) (climbs s n (omega arith)) (counted n (omega arith))
+  climbs s (suc n) l = go (climbed w n) (climbs s n (omega arith)) (counted n (omega arith)) (ℕ_discrete (count_of w places n) 0)
     where
-      go : Dec (count_of w places n ≡ 0) → (climbed w n).ok ≡ true → Counted n (climbed w n) → (climb_at w n (climbed w n)).ok ≡ true
-      go (yes z) k u = ap (λ (c : Climb). c.ok) (climb_skip n (climbed w n) z) ∙ k
-      go (no z) k u =
+      order : (c : Climb) → (lower n ≡ 0) ⊎ (Piece-at c.last × (rank_at w c.last < n)) → lower n ≡ n
+          → Piece-at (last_of w places n) × (rank_at w (last_of w places n) ≡ n)
+          → eqb n 0 || ltb (key c.last) (key (last_of w places n)) ≡ true
+      order c (inl d) f m = rw (eq-eqb n 0 (sym f ∙ d)) refl
+      order c (inr d) f m =
+          let r = s.rising (last_of w places n) c.last m.0 d.0 (omega (arith, d.1, m.1)) in
+          rw (lt-ltb (key c.last) (key (last_of w places n)) r) (or_yes (eqb n 0))
+
+      go : (o : Option Climb) → is_some o ≡ true → IfSome o (Counted n) → Dec (count_of w places n ≡ 0) → is_some (elim o [ Some c ↦ climb_at w n c | None ↦ None ]) ≡ true
+      go None e u d = absurd (true≢false (sym e))
+      go (Some c) e u (yes z) = rw (climb_skip n c z) refl
+      go (Some c) e u (no z) =
           let m = last_is n (omega arith) z in
           let f : lower n ≡ n = subst (λ (r : ℕ). lower r ≡ r) m.1 (s.filled (last_of w places n) m.0) in
-          ap (λ (c : Climb). c.ok) (climb_take n (climbed w n) z)
-          ∙ (rw (k, eq-eqb (climbed w n).seen n (u.seen_is ∙ f)) (order u.last_at f m))
-        where
-          order : (lower n ≡ 0) ⊎ (Piece-at (climbed w n).last × (rank_at w (climbed w n).last < n)) → lower n ≡ n
-              → Piece-at (last_of w places n) × (rank_at w (last_of w places n) ≡ n)
-              → eqb n 0 || ltb (key (climbed w n).last) (key (last_of w places n)) ≡ true
-          order (inl d) f m = rw (eq-eqb n 0 (sym f ∙ d)) refl
-          order (inr d) f m =
-              let r = s.rising (last_of w places n) (climbed w n).last m.0 d.0 (omega (arith, d.1, m.1)) in
-              rw (lt-ltb (key (climbed w n).last) (key (last_of w places n)) r) (or_yes (eqb n 0))
+          rw (climb_take n c z, eq-eqb c.seen n (u.seen_is ∙ f), order c u.last_at f m) refl
 
 -- ---- the whole
 
@@ -336,11 +344,11 @@ module _ (w : List ℕ) (h : Headed w) (e : all places (place_fits w) ≡ true) 
   of_key x y d = let a = and_true (eqb x.task y.task) (eqb x.job y.job) d in
       let t : x.task ≡ y.task = eqb-true _ _ a.0 in let j : x.job ≡ y.job = eqb-true _ _ a.1 in omega arith
 
-  there : all places (place_seen w) ≡ true → (climbed w places).ok ≡ true → SeenPlaces w h.head pieces
+  there : all places (place_seen w) ≡ true → is_some (climbed w places) ≡ true → SeenPlaces w h.head pieces
   there s o =
       let look : (p : ℕ) → Piece-at w p → _ = λ p a. looked p (all_yes (place_seen w) places s p a.0) a.1 in
       let one : (p : ℕ) → Piece-at w p → key w p ≡ key w (last_of w places (rank_at w p)) = λ p a. of_key (piece_at w p) (piece_at w (last_of w places (rank_at w p))) (look p a).1 in
-      let k = shown w one places (le_of_eq refl) o in (
+      let k = (climb_there w places (climbed w places) o (shown w one places (le_of_eq refl))).1 in (
         record {
           one_key = λ p q a b d. one p a ∙ ap (λ (r : ℕ). key w (last_of w places r)) d ∙ sym (one q b);
           rising = λ p q a b d. k.rising p q a b d (look p a).0;
@@ -384,14 +392,14 @@ module _ (w : List ℕ) (h : Headed w) (e : all places (place_fits w) ≡ true) 
         go p l true d = free_seen w p d
         go p l false d = seen_here p (l, ap not d)
 
-  pub places_same : all places (place_seen w) && (climbed w places).ok ≡ all places (place_true w)
+  pub places_same : all places (place_seen w) && (is_some (climbed w places)) ≡ all places (place_true w)
   places_same =
       same_bool _ _
-      (λ d. let a = and_true (all places (place_seen w)) (climbed w places).ok d in true_all ((one_pass w h.head pieces).0 (there a.0 a.1)))
+      (λ d. let a = and_true (all places (place_seen w)) (is_some (climbed w places)) d in true_all ((one_pass w h.head pieces).0 (there a.0 a.1)))
       (λ d. let t = all_true d in and_both _ _ (seen_all t) (climbs w (s t).0 places (le_of_eq refl)))
 
   -- what the pass finds of totals is what 33 asks of them
-  pub totals_same : all places (place_seen w) && (climbed w places).ok && all (draft_cores w) (core_seen w) ≡ all (draft_cores w) (core_true w) && all places (place_true w)
+  pub totals_same : all places (place_seen w) && (is_some (climbed w places)) && all (draft_cores w) (core_seen w) ≡ all (draft_cores w) (core_true w) && all places (place_true w)
   totals_same = rw (places_same, cores_same w h) (swap (all places (place_true w)) (all (draft_cores w) (core_true w)))
     where
       swap : (a b : Bool) → a && b ≡ b && a

@@ -1,5 +1,5 @@
 -- The pieces of a draft gathered for question 33: by the ranks that stand with them, and by cores.
-use Rattle.std.specs.Prelude.{ℕ, zero, suc, ◌+◌, ◌*◌, ◌^◌, ◌≡◌, Bool, true, ◌&&◌, ◌||◌, cond, List, length, get_or, set, ltb, leb, eqb}
+use Rattle.std.specs.Prelude.{Option, Some, None, ℕ, zero, suc, ◌+◌, ◌*◌, ◌^◌, ◌≡◌, Bool, ◌&&◌, ◌||◌, cond, List, length, get_or, set, ltb, leb, eqb}
 use Rattle.plan.specs.declared.Piece.{Piece}
 use Rattle.totals.specs.declared.Climb.{Climb}
 use Rattle.tallies.specs.Tallies.{tally, Kept}
@@ -49,20 +49,16 @@ job_key x = 2 ^ 32 * x.task + x.job
 
 module _ (w : List ℕ) where
   -- a rank taken in: where it has pieces, as many pieces are of lower ranks as it says, and its job is above the one before
-  unfoldable pub climb_at : ℕ → Climb → Climb
+  unfoldable pub climb_at : ℕ → Climb → Option Climb
   climb_at r c =
-      let m = last_of w places r in
-      cond (eqb (count_of w places r) 0) c
-      (record {
-        ok = c.ok && eqb c.seen r && (eqb r 0 || ltb (job_key (piece_at w c.last)) (job_key (piece_at w m)));
-        seen = c.seen + count_of w places r;
-        last = m;
-      })
+      let m = last_of w places r in let next : Climb = record { seen = c.seen + count_of w places r; last = m } in
+      cond (eqb (count_of w places r) 0) (Some c)
+      (cond (eqb c.seen r && (eqb r 0 || ltb (job_key (piece_at w c.last)) (job_key (piece_at w m)))) (Some next) None)
 
-  -- the ranks below n
-  unfoldable pub climbed : ℕ → Climb
-  climbed zero = record { ok = true; seen = 0; last = 0 }
-  climbed (suc n) = climb_at n (climbed n)
+  -- the ranks below n, where each is as it must be
+  unfoldable pub climbed : ℕ → Option Climb
+  climbed zero = Some (record { seen = 0; last = 0 })
+  climbed (suc n) = elim (climbed n) [ Some c ↦ climb_at n c | None ↦ None ]
 
 -- what 32 lent words hold: each core's piece ticks
 pub record CoreSums (w g : List ℕ) (n : ℕ) : Type 0 where

@@ -2,7 +2,7 @@
 // gathered by rank and by core.
 #![tactic(auto)]
 
-ghost use Rattle.std.specs.Prelude.{◌≡◌, true, ◌&&◌, ◌+◌, ◌*◌, ◌^◌, ◌<◌, ◌≤◌, length, get_or, set};
+ghost use Rattle.std.specs.Prelude.{◌≡◌, true, is_some, ◌&&◌, ◌+◌, ◌*◌, ◌^◌, ◌<◌, ◌≤◌, length, get_or, set};
 ghost use Rattle.plan.specs.Search.{all};
 ghost use Rattle.tallies.specs.Tallies.{Kept};
 ghost use Rattle.drafts.specs.Drafts.{draft_words, places, draft_tasks, draft_cores, piece_at, head_in_range, task_in_range, core_true, place_true, is_draft};
@@ -14,10 +14,9 @@ use draftwords::{
     piece_at, rank_at, task_core, task_count, task_deadline, task_period, total_at,
 };
 
-// Ranks looked at so far: are they as they must be, how many pieces they have, and a place of the last that has one.
+// Ranks looked at so far, where they are as they must be: how many pieces they have, and a place of the last that has one.
 #[derive(Clone, Copy)]
 pub struct Climb {
-    pub ok: bool,
     pub seen: u32,
     pub last: u32,
 }
@@ -56,14 +55,7 @@ fn tasks_in_range(words: &[u32]) -> bool
     ensures { result ≡ all (draft_tasks words.now) (task_in_range words.now) }
 {
     let tasks = task_count(words);
-    let mut task: u32 = 0;
-    while task < tasks {
-        if !task_in_range(words, task) {
-            return false;
-        }
-        task += 1;
-    }
-    true
+    searching::all(tasks, |task| task_in_range(words, task))
 }
 
 // Is a place free, or does its piece meet 5 and 10?
@@ -86,14 +78,7 @@ fn places_fit(words: &[u32]) -> bool
     requires { Headed words.now }
     ensures { result ≡ all places (place_fits words.now) }
 {
-    let mut place: u32 = 0;
-    while place < PLACES {
-        if !place_fits(words, place) {
-            return false;
-        }
-        place += 1;
-    }
-    true
+    searching::all(PLACES, |place| place_fits(words, place))
 }
 
 // Takes a piece of a length at a place into the words of its rank.
@@ -132,10 +117,8 @@ fn gather(words: &[u32], gathered: &mut [u32])
     requires gathered_len { (length gathered.old ≡ 6144) × Kept gathered.old 0 6144 (λ _. 0) }
     ensures { Gathered words.now gathered.new places }
 {
-    let mut place: u32 = 0;
-    while place < PLACES {
+    for place in 0..PLACES {
         take_in(words, gathered, place);
-        place += 1;
     }
 }
 
@@ -164,14 +147,7 @@ fn places_seen(words: &[u32], gathered: &[u32]) -> bool
     requires { Headed words.now × Gathered words.now gathered.now places }
     ensures { result ≡ all places (place_seen words.now) }
 {
-    let mut place: u32 = 0;
-    while place < PLACES {
-        if !place_seen(words, gathered, place) {
-            return false;
-        }
-        place += 1;
-    }
-    true
+    searching::all(PLACES, |place| place_seen(words, gathered, place))
 }
 
 // The job of the piece at a place, in one number.
@@ -183,8 +159,8 @@ fn key_at(words: &[u32], place: u32) -> u64
     4294967296 * piece.task as u64 + piece.job as u64
 }
 
-// Takes a rank in.
-fn climb_at(words: &[u32], gathered: &[u32], rank: u32, climb: Climb) -> Climb
+// Takes a rank in, where it is as it must be.
+fn climb_at(words: &[u32], gathered: &[u32], rank: u32, climb: Climb) -> Option<Climb>
     requires headed { (Headed words.now × Gathered words.now gathered.now places) × (rank < places) }
     requires last_lt_places { (climb.last < places) × (climb.seen ≤ 2048 * rank) }
     ensures { result ≡ climb_at words.now rank climb }
@@ -192,34 +168,34 @@ fn climb_at(words: &[u32], gathered: &[u32], rank: u32, climb: Climb) -> Climb
     let at = rank as usize;
     let count = gathered[at];
     if count == 0 {
-        return climb;
+        return Some(climb);
     }
     let here = gathered[4096 + at];
     let before = key_at(words, climb.last);
     let now = key_at(words, here);
-    Climb {
-        ok: climb.ok & (climb.seen == rank) & ((rank == 0) | (before < now)),
+    let rises = (climb.seen == rank) & ((rank == 0) | (before < now));
+    if !rises {
+        return None;
+    }
+    Some(Climb {
         seen: climb.seen + count,
         last: here,
-    }
+    })
 }
 
 // Are all ranks as they must be?
 fn ranks_rise(words: &[u32], gathered: &[u32]) -> bool
     requires { Headed words.now × Gathered words.now gathered.now places }
-    ensures { result ≡ (climbed words.now places).ok }
+    ensures { result ≡ is_some (climbed words.now places) }
 {
-    let mut climb = Climb {
-        ok: true,
-        seen: 0,
-        last: 0,
-    };
-    let mut rank: u32 = 0;
-    while rank < PLACES {
-        climb = climb_at(words, gathered, rank, climb);
-        rank += 1;
+    let mut climb = Climb { seen: 0, last: 0 };
+    for rank in 0..PLACES {
+        match climb_at(words, gathered, rank, climb) {
+            Some(next) => climb = next,
+            None => return false,
+        }
     }
-    climb.ok
+    true
 }
 
 // Adds ticks to a core's word.
@@ -252,10 +228,8 @@ pub fn sum_cores(words: &[u32], sums: &mut [u32])
     requires sums_len { (length sums.old ≡ 32) × Kept sums.old 0 32 (λ _. 0) }
     ensures { CoreSums words.now sums.new places }
 {
-    let mut place: u32 = 0;
-    while place < PLACES {
+    for place in 0..PLACES {
         sum_in(words, sums, place);
-        place += 1;
     }
 }
 
@@ -277,14 +251,7 @@ fn cores_seen(words: &[u32], sums: &[u32]) -> bool
     ensures { result ≡ all (draft_cores words.now) (core_seen words.now) }
 {
     let cores = core_count(words);
-    let mut core: u32 = 0;
-    while core < cores {
-        if !core_seen(words, sums, core) {
-            return false;
-        }
-        core += 1;
-    }
-    true
+    searching::all(cores, |core| core_seen(words, sums, core))
 }
 
 // Are all ranks and totals true? Gathers the pieces into lent words that hold 0 and looks at each place, each rank and each core once.

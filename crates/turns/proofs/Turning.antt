@@ -6,10 +6,10 @@ use mathlib.Core.Bool.{Bool, true, false, cond}
 use mathlib.Core.List.{List, ◌∷◌, ◌++◌, [], map, flat_map}
 use native.Mathlib.Omega.{arith}
 use lib.Dec.{eqb}
-use lib.ListN.{length, take, drop, length-take, length-drop, drop_of_length-le}
+use lib.ListN.{length, take, drop, length-take, length-drop, length-append, drop_of_length-le}
 use borrow.Author.Tests.{eq-eqb, ne_eqb, eqb-true}
 use borrow.Rule.Slice.PartMut.{put_mid}
-use lib.Seq.{drop-drop}
+use lib.Seq.{drop-drop, take_at, drop_at}
 use Rattle.plan.specs.declared.LaneState.{LaneState}
 use Rattle.plan.specs.Dispatch.{start_state, starts_at, step, refusal, step_all}
 use Rattle.plan.specs.Boundary.{state_of, state_bytes, first_records, records_of}
@@ -82,20 +82,27 @@ module _ (words : List ℕ) where
   unfolding placed refusal
   lowest_nil at b l = rw (states_nil b l) refl
 
-  module _ (b : List ℕ) (first i at : ℕ) (before : lowest first b ≡ lowest at (drop i b)) where
-    some : i < length b → 0 < length (drop i b)
-    some l = rw (length-drop i b) (omega arith)
+  -- x is the next record of b, and the rest come after it
+  module _ (at : ℕ) (b x rest : List ℕ) (split : b ≡ x ++ rest) (whole : length x ≡ 28) where
+    first : take 28 b ≡ x
+    first = rw split (take_at x rest 28 whole)
 
-    pub refused_at : i < length b → numbered at (take 28 (drop i b)) ≢ 0 → numbered at (take 28 (drop i b)) ≡ lowest first b
-    refused_at l h = sym (before ∙ lowest_next at (drop i b) (some l) ∙ (rw (ne_eqb (numbered at (take 28 (drop i b))) 0 h) refl))
+    some : 0 < length b
+    some = rw split (omega (arith, length-append x rest))
 
-    pub fits_at : i < length b → numbered at (take 28 (drop i b)) ≡ 0 → lowest first b ≡ lowest (table_after words at) (drop (i + 28) b)
-    fits_at l h =
-        before ∙ lowest_next at (drop i b) (some l)
-        ∙ (rw (eq-eqb (numbered at (take 28 (drop i b))) 0 h) (ap (lowest (table_after words at)) (drop-drop 28 i b)))
+    pub refused_at : numbered at x ≢ 0 → numbered at x ≡ lowest at b
+    refused_at h = sym (lowest_next at b some ∙ (rw (first, ne_eqb (numbered at x) 0 h) refl))
 
-    pub all_fit : length b ≤ i → 0 ≡ lowest first b
-    all_fit l = sym (before ∙ lowest_nil at (drop i b) (rw (length-drop i b) (omega arith)))
+    pub fits_at : numbered at x ≡ 0 → lowest at b ≡ lowest (table_after words at) rest
+    fits_at h =
+        let d : drop 28 b ≡ rest = rw split (drop_at x rest 28 whole) in
+        lowest_next at b some ∙ (rw (first, eq-eqb (numbered at x) 0 h, d) refl)
+
+    pub still_whole : length b % 28 ≡ 0 → length rest % 28 ≡ 0
+    still_whole h = let n : length b ≡ length x + length rest = rw split (length-append x rest) in omega arith
+
+  pub all_fit : (at : ℕ) (b : List ℕ) → length b % 28 ≡ 0 → length b < 28 → 0 ≡ lowest at b
+  all_fit at b e l = sym (lowest_nil at b (omega arith))
 
   first_fits : (at : ℕ) (b : List ℕ) → 0 < length b → lowest at b ≡ 0 → (numbered at (take 28 b) ≡ 0) × (lowest (table_after words at) (drop 28 b) ≡ 0)
   first_fits at b l h = go (eqb (numbered at (take 28 b)) 0) refl (sym (lowest_next at b l) ∙ h)

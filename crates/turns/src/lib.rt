@@ -42,12 +42,9 @@ pub fn start_all(words: &[u8], first: u32, cycle: u64, states: &mut [u8])
     ensures { states.new ≡ flat_map state_bytes (starts_at (table_from (words_of words.now) first) cycle (length states.old / 28)) }
 {
     let mut at = first;
-    let mut i = 0;
-    while i < states.len() {
-        let end = i + STATE;
-        put_state(&mut states[i..end], LaneState::start(cycle, at));
+    for i in (0..states.len()).step_by(STATE) {
+        put_state(&mut states[i..i + STATE], LaneState::start(cycle, at));
         at = table_after(words, at);
-        i = end;
     }
 }
 
@@ -74,15 +71,12 @@ fn refused_there(words: &[u8], first: u32, states: &[u8]) -> u32
     ensures { result ≡ refusal (words_of words.now) (placed (words_of words.now) first (states_of states.now)) }
 {
     let mut at = first;
-    let mut i = 0;
-    while i < states.len() {
-        let end = i + STATE;
-        let number = number_there(words, at, &states[i..end]);
+    for bytes in states.chunks_exact(STATE) {
+        let number = number_there(words, at, bytes);
         if number != 0 {
             return number;
         }
         at = table_after(words, at);
-        i = end;
     }
     0
 }
@@ -93,12 +87,9 @@ fn move_all_there(words: &[u8], first: u32, states: &mut [u8])
     ensures { states.new ≡ flat_map state_bytes (step_all (words_of words.now) (placed (words_of words.now) first (states_of states.old))) }
 {
     let mut at = first;
-    let mut i = 0;
-    while i < states.len() {
-        let end = i + STATE;
-        move_there(words, at, &mut states[i..end]);
+    for i in (0..states.len()).step_by(STATE) {
+        move_there(words, at, &mut states[i..i + STATE]);
         at = table_after(words, at);
-        i = end;
     }
 }
 

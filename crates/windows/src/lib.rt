@@ -1,169 +1,110 @@
 // Questions 7 to 13 (paper 01, "The questions"): windows, tasks and pieces.
 #![tactic(auto)]
 
-ghost use Rattle.std.specs.Prelude.{◌≡◌, ◌<◌, ◌≤◌, length, take};
-ghost use Rattle.plan.specs.declared.Table.TheVariants.{Tasks, Windows, Pieces};
-ghost use Rattle.plan.specs.Image.{rows};
-ghost use Rattle.plan.specs.Questions.{question_at, piece_questions, answer_to};
-ghost use Rattle.plan.specs.Held.{Sound, Passed, Listed, refusing};
+ghost use Rattle.std.specs.Prelude.{◌≡◌, IfOk, length, take};
+ghost use Rattle.plan.specs.Questions.{piece_questions};
+ghost use Rattle.plan.specs.Held.{Sound, Passed};
+ghost use Rattle.asking.specs.Asking.{verdict};
 ghost use Rattle.charges.specs.Charges.{Charged};
 ghost use Rattle.jobs.specs.Times.{times_words, Timed};
-ghost use Rattle.windows.specs.Asking.{Asking, RowAsked};
 
+use asking::{each_row, tell};
 use budgets::first_off_budget;
 use clashes::first_clash;
 use inside::first_outside;
 use pieces::{mask_allows, piece_fits, window_fits};
 use places::Occupant;
-use plan::{Answer, Asked, Found, Table};
-use tables::{refusal, rows_of};
+use plan::{Answer, Asked, Table};
 
-// The questions, by their place in the list.
-const WINDOW_FITS: u32 = 0;
+// The questions.
+const WINDOW_FITS: Asked = Asked {
+    number: 7,
+    table: Table::Windows,
+};
 
-const WINDOW_CLEAR: u32 = 1;
+const WINDOW_CLEAR: Asked = Asked {
+    number: 8,
+    table: Table::Windows,
+};
 
-const MASK_ALLOWS: u32 = 2;
+const MASK_ALLOWS: Asked = Asked {
+    number: 9,
+    table: Table::Tasks,
+};
 
-const PIECE_FITS: u32 = 3;
+const PIECE_FITS: Asked = Asked {
+    number: 10,
+    table: Table::Pieces,
+};
 
-const PIECE_INSIDE: u32 = 4;
+const PIECE_INSIDE: Asked = Asked {
+    number: 11,
+    table: Table::Pieces,
+};
 
-const PIECE_CLEAR: u32 = 5;
+const PIECE_CLEAR: Asked = Asked {
+    number: 12,
+    table: Table::Pieces,
+};
 
-const TASK_BUDGET: u32 = 6;
+const TASK_BUDGET: Asked = Asked {
+    number: 13,
+    table: Table::Tasks,
+};
 
-// The list: each question's number and table, in the order asked.
-fn question_at(place: u32) -> Asked
-    requires { place < 7 }
-    ensures { Listed piece_questions place result }
+// Questions 7 to 10, with the charges at hand.
+fn ask_fits(image: &[u8], charges: &[u32]) -> Result<(), Answer>
+    requires { Sound image.now × Charged image.now charges.now }
+    ensures { result ≡ verdict (take 4 (piece_questions image.now)) }
 {
-    match place {
-        WINDOW_FITS => Asked {
-            number: 7,
-            table: Table::Windows,
-        },
-        WINDOW_CLEAR => Asked {
-            number: 8,
-            table: Table::Windows,
-        },
-        MASK_ALLOWS => Asked {
-            number: 9,
-            table: Table::Tasks,
-        },
-        PIECE_FITS => Asked {
-            number: 10,
-            table: Table::Pieces,
-        },
-        PIECE_INSIDE => Asked {
-            number: 11,
-            table: Table::Pieces,
-        },
-        PIECE_CLEAR => Asked {
-            number: 12,
-            table: Table::Pieces,
-        },
-        _ => Asked {
-            number: 13,
-            table: Table::Tasks,
-        },
-    }
+    each_row(
+        image,
+        WINDOW_FITS,
+        |window| window_fits(image, charges, window),
+    )?;
+    tell(WINDOW_CLEAR, first_clash(image, Occupant::Window))?;
+    each_row(image, MASK_ALLOWS, |task| mask_allows(image, task))?;
+    each_row(image, PIECE_FITS, |piece| piece_fits(image, piece))
 }
 
-// Does a row pass question 7, 9 or 10, each of which asks of a row by itself?
-fn passes(image: &[u8], charges: &[u32], place: u32, row: u32) -> bool
-    requires asking { Asking image.now charges.now place × RowAsked place }
-    requires row_bound { row < (question_at (piece_questions image.now) place).many }
-    ensures { result ≡ (question_at (piece_questions image.now) place).ok row }
+// Questions 11 and 12, where these were passed.
+fn ask_places(image: &[u8], charges: &[u32]) -> Result<(), Answer>
+    requires { Sound image.now × (Passed (piece_questions image.now) 4 × Charged image.now charges.now) }
+    ensures { result ≡ verdict (take 6 (piece_questions image.now)) }
 {
-    match place {
-        WINDOW_FITS => window_fits(image, charges, row),
-        MASK_ALLOWS => mask_allows(image, row),
-        _ => piece_fits(image, row),
-    }
+    tell(PIECE_INSIDE, first_outside(image, charges))?;
+    tell(PIECE_CLEAR, first_clash(image, Occupant::Piece))
 }
 
-// 7, 9 or 10: the lowest row that says no.
-fn first_row(image: &[u8], charges: &[u32], place: u32) -> Found
-    requires { Asking image.now charges.now place × RowAsked place }
-    ensures { result ≡ refusing (question_at (piece_questions image.now) place) }
-{
-    let asked = question_at(place);
-    let table = asked.table;
-    let rows = rows_of(image, table);
-    let mut row: u32 = 0;
-    while row < rows {
-        if !passes(image, charges, place, row) {
-            return Found::At(row);
-        }
-        row += 1;
-    }
-    Found::Nothing
-}
-
-// The lowest row that says no to question 7 to 12.
-fn first_no(image: &[u8], charges: &[u32], place: u32) -> Found
-    requires { Asking image.now charges.now place }
-    ensures { result ≡ refusing (question_at (piece_questions image.now) place) }
-{
-    match place {
-        WINDOW_CLEAR => first_clash(image, Occupant::Window),
-        PIECE_INSIDE => first_outside(image, charges),
-        PIECE_CLEAR => first_clash(image, Occupant::Piece),
-        _ => first_row(image, charges, place),
-    }
-}
-
-// Questions from 7 on to one that is not asked, at the latest 13, in this order, with the charges at hand.
-fn ask_pieces(image: &[u8], charges: &[u32], end: u32) -> Answer
-    requires { (Sound image.now × Charged image.now charges.now) × (end ≤ 6) }
-    ensures { result ≡ answer_to (take end (piece_questions image.now)) }
-{
-    let mut place: u32 = 0;
-    while place < end {
-        match first_no(image, charges, place) {
-            Found::At(row) => {
-                return refusal(question_at(place), row);
-            }
-            Found::Nothing => {}
-        }
-        place += 1;
-    }
-    plan::accepted()
-}
-
-// Question 13. The times of all jobs are gathered for it.
-fn ask_budgets(image: &[u8], times: &mut [u32]) -> Answer
+// Question 13, where all before it were passed. The times of all jobs are gathered for it.
+fn ask_budgets(image: &[u8], times: &mut [u32]) -> Result<(), Answer>
     requires { Sound image.now × (Passed (piece_questions image.now) 6 × (length times.old ≡ times_words)) }
-    ensures { (result ≡ answer_to (piece_questions image.now)) × ((result.number ≡ 0) → Timed image.now times.new) }
+    ensures told { result ≡ verdict (piece_questions image.now) }
+    ensures timed { IfOk result (λ _. Timed image.now times.new) }
 {
     jobs::gather(image, times);
-    match first_off_budget(image, times) {
-        Found::At(row) => refusal(question_at(TASK_BUDGET), row),
-        Found::Nothing => plan::accepted(),
-    }
+    tell(TASK_BUDGET, first_off_budget(image, times))
 }
 
 // Questions 7 to 13. Where all are answered yes, the times are those of the plan's jobs.
-pub fn ask(image: &[u8], times: &mut [u32]) -> Answer
+pub fn ask(image: &[u8], times: &mut [u32]) -> Result<(), Answer>
     requires { Sound image.now × (length times.old ≡ times_words) }
-    ensures { (result ≡ answer_to (piece_questions image.now)) × ((result.number ≡ 0) → Timed image.now times.new) }
+    ensures told { result ≡ verdict (piece_questions image.now) }
+    ensures timed { IfOk result (λ _. Timed image.now times.new) }
 {
     let mut charges = [0u32; charges::WORDS];
     charges::gather(image, &mut charges);
-    let pieces = ask_pieces(image, &charges, TASK_BUDGET);
-    if pieces.number != 0 {
-        return pieces;
-    }
+    ask_fits(image, &charges)?;
+    ask_places(image, &charges)?;
     ask_budgets(image, times)
 }
 
 // Questions 7 to 10: all that asks of windows, masks and pieces by themselves.
-pub fn ask_fitting(image: &[u8]) -> Answer
+pub fn ask_fitting(image: &[u8]) -> Result<(), Answer>
     requires { Sound image.now }
-    ensures { result ≡ answer_to (take 4 (piece_questions image.now)) }
+    ensures { result ≡ verdict (take 4 (piece_questions image.now)) }
 {
     let mut charges = [0u32; charges::WORDS];
     charges::gather(image, &mut charges);
-    ask_pieces(image, &charges, PIECE_INSIDE)
+    ask_fits(image, &charges)
 }

@@ -83,30 +83,26 @@ fn put_text(out: &mut [u8], at: usize, text: &[u8]) -> usize
     requires { (at ≤ 2 ^ 40) × (length text.now ≤ 2 ^ 40) }
     ensures { Put out.old at text.now (length text.now) result out.new }
 {
-    let mut i: usize = 0;
-    while i < text.len() {
+    for i in 0..text.len() {
         put(out, at + i, text[i]);
-        i += 1;
     }
-    at + i
+    at + text.len()
 }
 
 // Where line n of a text begins, or the text's end where it has fewer.
 fn line_start(text: &[u8], n: u32) -> usize
     ensures { (result ≤ length text.now) × (drop result text.now ≡ lines_from n text.now) }
 {
-    let mut at: usize = 0;
     let mut left = n;
-    while at < text.len() {
+    for at in 0..text.len() {
         if left == 0 {
             return at;
         }
         if text[at] == b'\n' {
             left -= 1;
         }
-        at += 1;
     }
-    at
+    text.len()
 }
 
 // The end of the line that begins at a place: its newline, or the text's end.
@@ -114,14 +110,10 @@ fn line_end(text: &[u8], from: usize) -> usize
     requires { from ≤ length text.now }
     ensures { result ≡ from + length (first_line (drop from text.now)) }
 {
-    let mut at = from;
-    while at < text.len() {
-        if text[at] == b'\n' {
-            return at;
-        }
-        at += 1;
+    match text[from..].iter().position(|byte| *byte == b'\n') {
+        Some(length) => from + length,
+        None => text.len(),
     }
-    at
 }
 
 // Line n of a text.

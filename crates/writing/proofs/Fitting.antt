@@ -5,8 +5,8 @@ use mathlib.Core.Bool.{Bool, true, false, cond}
 use mathlib.Core.List.{List, ◌∷◌, []}
 use native.Mathlib.Omega.{arith}
 use lib.Dec.{ltb}
-use Rattle.plan.specs.declared.Found.{Found}
-use Rattle.plan.specs.declared.Found.TheVariants.{At, Nothing}
+use Rattle.std.specs.Prelude.{Option}
+use Rattle.std.specs.Prelude.{Some, None}
 use Rattle.plan.specs.declared.Table.{Table}
 use Rattle.plan.specs.declared.Table.TheVariants.{Cores, Windows, Pieces, Frames}
 use Rattle.plan.specs.Image.{shape, rows, cycle_ticks, piece, window, most_pieces}
@@ -39,22 +39,22 @@ module _ (s : List ℕ) (e : answer_of s ≡ accepted) where
   unfolding piece_at window_at shape
   core_small core t = go (piece_at s core t) refl (window_at s core t) refl
     where
-      go : (f : Found) → piece_at s core t ≡ f → (g : Found) → window_at s core t ≡ g → Small (on_core s core t)
-      go (At i) p g q =
+      go : (f : Option ℕ) → piece_at s core t ≡ f → (g : Option ℕ) → window_at s core t ≡ g → Small (on_core s core t)
+      go (Some i) p g q =
           let l = few Pieces (omega arith) i (first_at _ _ i p).0 in
           rw (core_piece s core t i p) (small_either (ltb t ((piece s i).start + switch_ticks s (piece s i).task)) (show 3 i) (show 4 i) (small_show 3 i (omega arith) l) (small_show 4 i (omega arith) l))
-      go Nothing p (At w) q =
+      go None p (Some w) q =
           let l = few Windows (omega arith) w (first_at _ _ w q).0 in
           rw (core_window s core t w p q) (small_either (ltb t ((window s w).start + charge s w)) (show 1 w) (show 2 w) (small_show 1 w (omega arith) l) (small_show 2 w (omega arith) l))
-      go Nothing p Nothing q = rw (core_idle s core t p q) (small_show 0 0 (omega arith) (omega arith))
+      go None p None q = rw (core_idle s core t p q) (small_show 0 0 (omega arith) (omega arith))
 
   link_small : (link t : ℕ) → Small (on_link s link t)
   unfolding frame_at shape
   link_small link t = go (frame_at s link t) refl
     where
-      go : (f : Found) → frame_at s link t ≡ f → Small (on_link s link t)
-      go (At i) p = rw (link_frame s link t i p) (small_show 5 i (omega arith) (few Frames (omega arith) i (first_at _ _ i p).0))
-      go Nothing p = rw (link_idle s link t p) (small_show 0 0 (omega arith) (omega arith))
+      go : (f : Option ℕ) → frame_at s link t ≡ f → Small (on_link s link t)
+      go (Some i) p = rw (link_frame s link t i p) (small_show 5 i (omega arith) (few Frames (omega arith) i (first_at _ _ i p).0))
+      go None p = rw (link_idle s link t p) (small_show 0 0 (omega arith) (omega arith))
 
   pub shown_small : (lane t : ℕ) → Small (shown_at s lane t)
   unfolding shown_at

@@ -99,10 +99,8 @@ pub fn words_of_all(image: &[u8], charges: &[u32], index: &[u32]) -> usize
 {
     let lanes = lane_count(image);
     let mut words: usize = 0;
-    let mut lane: u32 = 0;
-    while lane < lanes {
+    for lane in 0..lanes {
         words += 2 + 3 * count_entries(image, charges, index, lane) as usize;
-        lane += 1;
     }
     words
 }
@@ -114,11 +112,9 @@ pub fn write_all(image: &[u8], charges: &[u32], index: &[u32], bytes: &mut [u8])
 {
     let lanes = lane_count(image);
     let mut at: usize = 0;
-    let mut lane: u32 = 0;
-    while lane < lanes {
+    for lane in 0..lanes {
         let count = write_table(image, charges, index, lane, bytes, at);
         at += 8 + 12 * count as usize;
-        lane += 1;
     }
 }
 

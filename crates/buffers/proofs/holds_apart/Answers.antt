@@ -6,7 +6,7 @@ use mathlib.Core.Path.{◌≡◌, refl, sym, ◌∙◌}
 use native.Mathlib.Omega.{arith}
 use Rattle.plan.specs.Questions.{hold}
 use Rattle.buffers.proofs.Merging.{apart_none, apart_all, not_apart, pass_left, pass_right}
-use Rattle.buffers.proofs.Sides.{side_0, side_1, side_2, counted}
+use Rattle.buffers.proofs.Sides.{holds_overlap, first_is_over, second_is_over, counted}
 use Rattle.buffers.proofs.holds_apart.Goals as goal
 
 -- src/lib.rt:120:9
@@ -29,25 +29,21 @@ hold_of-a-requires c = let t = both_left c.loop-j.j c.buffer_jobs-lower_jobs.res
 pub hold_of-b-requires : goal.hold_of-b-requires
 hold_of-b-requires c = let t = both_left c.loop-j.j c.buffer_jobs-lower_jobs.result c.loop-j.k c.buffer_jobs-jobs.result c.loop-j-test.true in let p = c.requires in let g = c.buffer_jobs-jobs.ensures in record { sound = (p.sound.0, p.sound.1.1); row_bound = (p.lower_lt_row.0.1, (p.lower_lt_row.1, omega (arith, t.1))) }
 
--- src/lib.rt:127:13
-pub side_of-side-requires : goal.side_of-side-requires
-side_of-side-requires c = tt
-
 -- src/lib.rt:130:17
-pub returns-in-0 : goal.returns-in-0
-returns-in-0 c = let l = c.loop-j in let t = both_left c.loop-j.j c.buffer_jobs-lower_jobs.result c.loop-j.k c.buffer_jobs-jobs.result c.loop-j-test.true in let a = c.args in let p = c.requires in let s = a.image.now in let g = c.buffer_jobs-lower_jobs.ensures in let h = c.buffer_jobs-jobs.ensures in let m = c.buffer_jobs-lower_jobs.result in let n = c.buffer_jobs-jobs.result in let q = a.lower in let r = a.row in let F = hold s q in let G = hold s r in let e : c.side_of-side.result ≡ side_of (hold_of s q l.j) (hold_of s r l.k) = c.side_of-side.ensures ∙ (rw (c.hold_of-a.ensures, c.hold_of-b.ensures) refl) in sym (counted s q r m n false g h (not_apart F G m n l.j l.k t.0 t.1 (side_0 s q r l.j l.k (sym e ∙ c.in-0.is))))
+pub returns-in-Overlap : goal.returns-in-Overlap
+returns-in-Overlap c = let l = c.loop-j in let t = both_left c.loop-j.j c.buffer_jobs-lower_jobs.result c.loop-j.k c.buffer_jobs-jobs.result c.loop-j-test.true in let a = c.args in let p = c.requires in let s = a.image.now in let g = c.buffer_jobs-lower_jobs.ensures in let h = c.buffer_jobs-jobs.ensures in let m = c.buffer_jobs-lower_jobs.result in let n = c.buffer_jobs-jobs.result in let q = a.lower in let r = a.row in let F = hold s q in let G = hold s r in let e : c.side_of.result ≡ side_of (hold_of s q l.j) (hold_of s r l.k) = c.side_of.ensures ∙ (rw (c.hold_of-a.ensures, c.hold_of-b.ensures) refl) in sym (counted s q r m n false g h (not_apart F G m n l.j l.k t.0 t.1 (holds_overlap s q r l.j l.k (sym e ∙ c.in-Overlap.is))))
 
 -- src/lib.rt:132:18
 pub overflow_add-j : goal.overflow_add-j
 overflow_add-j c = let t = both_left c.loop-j.j c.buffer_jobs-lower_jobs.result c.loop-j.k c.buffer_jobs-jobs.result c.loop-j-test.true in omega (arith, t.0)
 
 -- src/lib.rt:124:5
-pub loop-j-smaller-in-1 : goal.loop-j-smaller-in-1
-loop-j-smaller-in-1 c = let t = both_left c.loop-j.j c.buffer_jobs-lower_jobs.result c.loop-j.k c.buffer_jobs-jobs.result c.loop-j-test.true in omega (arith, t.0)
+pub loop-j-smaller-in-FirstOver : goal.loop-j-smaller-in-FirstOver
+loop-j-smaller-in-FirstOver c = let t = both_left c.loop-j.j c.buffer_jobs-lower_jobs.result c.loop-j.k c.buffer_jobs-jobs.result c.loop-j-test.true in omega (arith, t.0)
 
 -- src/lib.rt:124:5
-pub loop-j-preserved-in-1 : goal.loop-j-preserved-in-1
-loop-j-preserved-in-1 c = let l = c.loop-j in let t = both_left c.loop-j.j c.buffer_jobs-lower_jobs.result c.loop-j.k c.buffer_jobs-jobs.result c.loop-j-test.true in let a = c.args in let p = c.requires in let s = a.image.now in let g = c.buffer_jobs-lower_jobs.ensures in let h = c.buffer_jobs-jobs.ensures in let m = c.buffer_jobs-lower_jobs.result in let n = c.buffer_jobs-jobs.result in let q = a.lower in let r = a.row in let F = hold s q in let G = hold s r in let e : c.side_of-side.result ≡ side_of (hold_of s q l.j) (hold_of s r l.k) = c.side_of-side.ensures ∙ (rw (c.hold_of-a.ensures, c.hold_of-b.ensures) refl) in (omega (arith, t.0), l.invariant.1, pass_left F G m n l.j l.k l.invariant.2 (holds_rise s p.sound.0 p.sound.1.0 r n p.lower_lt_row.0.1 h) (side_1 s q r l.j l.k (sym e ∙ c.in-1.is)))
+pub loop-j-preserved-in-FirstOver : goal.loop-j-preserved-in-FirstOver
+loop-j-preserved-in-FirstOver c = let l = c.loop-j in let t = both_left c.loop-j.j c.buffer_jobs-lower_jobs.result c.loop-j.k c.buffer_jobs-jobs.result c.loop-j-test.true in let a = c.args in let p = c.requires in let s = a.image.now in let g = c.buffer_jobs-lower_jobs.ensures in let h = c.buffer_jobs-jobs.ensures in let m = c.buffer_jobs-lower_jobs.result in let n = c.buffer_jobs-jobs.result in let q = a.lower in let r = a.row in let F = hold s q in let G = hold s r in let e : c.side_of.result ≡ side_of (hold_of s q l.j) (hold_of s r l.k) = c.side_of.ensures ∙ (rw (c.hold_of-a.ensures, c.hold_of-b.ensures) refl) in (omega (arith, t.0), l.invariant.1, pass_left F G m n l.j l.k l.invariant.2 (holds_rise s p.sound.0 p.sound.1.0 r n p.lower_lt_row.0.1 h) (first_is_over s q r l.j l.k (sym e ∙ c.in-FirstOver.is)))
 
 -- src/lib.rt:133:18
 pub overflow_add-k : goal.overflow_add-k
@@ -59,7 +55,7 @@ loop-j-smaller c = let t = both_left c.loop-j.j c.buffer_jobs-lower_jobs.result 
 
 -- src/lib.rt:124:5
 pub loop-j-preserved : goal.loop-j-preserved
-loop-j-preserved c = let l = c.loop-j in let t = both_left c.loop-j.j c.buffer_jobs-lower_jobs.result c.loop-j.k c.buffer_jobs-jobs.result c.loop-j-test.true in let a = c.args in let p = c.requires in let s = a.image.now in let g = c.buffer_jobs-lower_jobs.ensures in let h = c.buffer_jobs-jobs.ensures in let m = c.buffer_jobs-lower_jobs.result in let n = c.buffer_jobs-jobs.result in let q = a.lower in let r = a.row in let F = hold s q in let G = hold s r in let e : c.side_of-side.result ≡ side_of (hold_of s q l.j) (hold_of s r l.k) = c.side_of-side.ensures ∙ (rw (c.hold_of-a.ensures, c.hold_of-b.ensures) refl) in (l.invariant.0, omega (arith, t.1), pass_right F G m n l.j l.k l.invariant.2 (holds_rise s p.sound.0 p.sound.1.0 q m (let w = p.lower_lt_row.0 in omega arith) g) (side_2 s q r l.j l.k (λ z. c.in_default.in_default-own.rest.0.1 (e ∙ z)) (λ z. c.in_default.in_default-own.rest.1 (e ∙ z))))
+loop-j-preserved c = let l = c.loop-j in let t = both_left c.loop-j.j c.buffer_jobs-lower_jobs.result c.loop-j.k c.buffer_jobs-jobs.result c.loop-j-test.true in let a = c.args in let p = c.requires in let s = a.image.now in let g = c.buffer_jobs-lower_jobs.ensures in let h = c.buffer_jobs-jobs.ensures in let m = c.buffer_jobs-lower_jobs.result in let n = c.buffer_jobs-jobs.result in let q = a.lower in let r = a.row in let F = hold s q in let G = hold s r in let e : c.side_of.result ≡ side_of (hold_of s q l.j) (hold_of s r l.k) = c.side_of.ensures ∙ (rw (c.hold_of-a.ensures, c.hold_of-b.ensures) refl) in (l.invariant.0, omega (arith, t.1), pass_right F G m n l.j l.k l.invariant.2 (holds_rise s p.sound.0 p.sound.1.0 q m (let w = p.lower_lt_row.0 in omega arith) g) (second_is_over s q r l.j l.k (sym e ∙ c.in-SecondOver.is)))
 
 -- src/lib.rt:115:1
 pub returns : goal.returns

@@ -1,23 +1,23 @@
-use Rattle.lanes.proofs.Building.{build_refused, build_no_lane}
-use Rattle.plan.proofs.Numbers.{accepted_of}
-use Rattle.lanes.specs.Words.{Filled}
-use Rattle.plan.specs.declared.Answer.{Answer}
+use mathlib.Core.Path.{refl, sym, subst, ◌∙◌}
 use native.Mathlib.Omega.{arith}
-use mathlib.Core.Path.{refl, sym, ap, subst, ◌∙◌}
+use Rattle.plan.specs.declared.Answer.{Answer}
+use Rattle.questions.proofs.Verdict.{ask_accepts, ask_refuses, ask_numbers}
+use Rattle.lanes.specs.Words.{Filled}
+use Rattle.lanes.proofs.Building.{build_refused, build_no_lane}
 use Rattle.building.proofs.build.Goals as goal
 
--- src/lib.rt:25:9
-pub returns-then-answer-ne0 : goal.returns-then-answer-ne0
-returns-then-answer-ne0 c = let a = c.args in let s = a.image.now in let w = a.words.now in let e = c.check-answer.ensures in subst (λ (r : Answer). Filled s a.lane w r w) (sym e) (build_refused s a.lane w (λ z. c.if-answer-ne0.true (ap (λ (x : Answer). x.number) e ∙ z)))
+pub returns-in-Err : goal.returns-in-Err
+returns-in-Err c =
+    let a = c.args in let s = a.image.now in let w = a.words.now in let x = c.in-Err.no in let e = sym c.in-Err.is ∙ c.ask.ensures in
+    subst (λ (r : Answer). Filled s a.lane w r w) (ask_refuses s x e) (build_refused s a.lane w (ask_numbers s x e))
 
--- src/lib.rt:27:8
 pub lane_count-requires : goal.lane_count-requires
-lane_count-requires c = let s = c.args.image.now in accepted_of s (sym (ap (λ (x : Answer). x.number) c.check-answer.ensures) ∙ c.if-answer-ne0.false)
+lane_count-requires c = ask_accepts c.args.image.now (sym c.in_default.is ∙ c.ask.ensures)
 
--- src/lib.rt:28:9
 pub returns-then-lane_count-lane : goal.returns-then-lane_count-lane
-returns-then-lane_count-lane c = let a = c.args in let s = a.image.now in let g = c.lane_count.ensures in build_no_lane s a.lane a.words.now (accepted_of s (sym (ap (λ (x : Answer). x.number) c.check-answer.ensures) ∙ c.if-answer-ne0.false)) (let t = c.if-lane_count-lane.true in omega arith)
+returns-then-lane_count-lane c =
+    let a = c.args in let s = a.image.now in
+    rw c.refused.ensures (build_no_lane s a.lane a.words.now (ask_accepts s (sym c.in_default.is ∙ c.ask.ensures)) (omega (arith, c.lane_count.ensures, c.if-lane_count-lane.true)))
 
--- src/lib.rt:36:5
 pub gather-requires : goal.gather-requires
-gather-requires c = let s = c.args.image.now in (accepted_of s (sym (ap (λ (x : Answer). x.number) c.check-answer.ensures) ∙ c.if-answer-ne0.false), (refl, refl))
+gather-requires c = (ask_accepts c.args.image.now (sym c.in_default.is ∙ c.ask.ensures), (refl, refl))

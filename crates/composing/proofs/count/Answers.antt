@@ -10,7 +10,7 @@ overflow_cast-bytes c = omega arith
 
 -- src/lib.rt:46:5
 pub loop-i-init : goal.loop-i-init
-loop-i-init c = let a = c.args in (omega arith, count_none (joined_rows a.first.now a.second.now a.shared) a.counts.now c.requires.shared_bound.1)
+loop-i-init c = let a = c.args in count_none (joined_rows a.first.now a.second.now a.shared) a.counts.now c.requires.shared_bound.1
 
 -- src/lib.rt:47:13
 pub table_at-table-requires : goal.table_at-table-requires
@@ -26,7 +26,7 @@ shape_of-shape-requires-in-loop-i c = tt
 
 -- src/lib.rt:51:13
 pub shape_of-counts-then-shape-n : goal.shape_of-counts-then-shape-n
-shape_of-counts-then-shape-n c = c.loop-i.invariant.1.size ∙ sym c.requires.shared_bound.1
+shape_of-counts-then-shape-n c = c.loop-i.invariant.size ∙ sym c.requires.shared_bound.1
 
 -- src/lib.rt:51:13
 pub returns-then-shape-n : goal.returns-then-shape-n
@@ -42,7 +42,7 @@ offset_bounds-counts-i c = omega arith
 
 -- src/lib.rt:53:9
 pub bounds-counts-i : goal.bounds-counts-i
-bounds-counts-i c = omega (arith, c.loop-i.invariant.1.size)
+bounds-counts-i c = omega (arith, c.loop-i.invariant.size)
 
 -- src/lib.rt:54:23
 pub overflow_mul-bytes : goal.overflow_mul-bytes
@@ -54,24 +54,16 @@ overflow_mul-bytes-in-loop-i c = let a = c.args in let l = c.loop-i in omega (ar
 
 -- src/lib.rt:54:9
 pub overflow_add-bytes : goal.overflow_add-bytes
-overflow_add-bytes c = let a = c.args in let l = c.loop-i in omega (arith, l.invariant.0, l.invariant.1.low, turn_small (joined_rows a.first.now a.second.now a.shared) c.table_at-table.result l.i c.rows_joined-n.result c.shape_of-shape.result c.table_at-table.ensures c.shape_of-shape.ensures (omega (arith, c.if-shape-n.false)))
-
--- src/lib.rt:55:9
-pub overflow_add-i : goal.overflow_add-i
-overflow_add-i c = omega arith
-
--- src/lib.rt:46:5
-pub loop-i-smaller : goal.loop-i-smaller
-loop-i-smaller c = omega arith
+overflow_add-bytes c = let a = c.args in let l = c.loop-i in omega (arith, l.auto, l.invariant.low, turn_small (joined_rows a.first.now a.second.now a.shared) c.table_at-table.result l.i c.rows_joined-n.result c.shape_of-shape.result c.table_at-table.ensures c.shape_of-shape.ensures (omega (arith, c.if-shape-n.false)))
 
 -- src/lib.rt:46:5
 pub loop-i-preserved : goal.loop-i-preserved
-loop-i-preserved c = let a = c.args in let l = c.loop-i in (omega arith, turn_on (joined_rows a.first.now a.second.now a.shared) c.table_at-table.result l.i c.rows_joined-n.result c.shape_of-shape.result c.table_at-table.ensures c.shape_of-shape.ensures l.counts l.bytes l.invariant.1 (omega arith) c.rows_joined-n.ensures.0 (omega (arith, c.if-shape-n.false)) c.rows_joined-n.ensures.1)
+loop-i-preserved c = let a = c.args in let l = c.loop-i in turn_on (joined_rows a.first.now a.second.now a.shared) c.table_at-table.result l.i c.rows_joined-n.result c.shape_of-shape.result c.table_at-table.ensures c.shape_of-shape.ensures l.counts l.bytes l.invariant (omega arith) c.rows_joined-n.ensures.0 (omega (arith, c.if-shape-n.false)) c.rows_joined-n.ensures.1
 
 -- src/lib.rt:39:1
 pub shape_of-counts : goal.shape_of-counts
-shape_of-counts c = c.loop-i.invariant.1.size ∙ sym c.requires.shared_bound.1
+shape_of-counts c = c.loop-i.invariant.size ∙ sym c.requires.shared_bound.1
 
 -- src/lib.rt:39:1
 pub returns : goal.returns
-returns c = let a = c.args in let l = c.loop-i in count_done (joined_rows a.first.now a.second.now a.shared) l.counts l.bytes l.i l.invariant.1 (omega arith)
+returns c = let a = c.args in let l = c.loop-i in count_done (joined_rows a.first.now a.second.now a.shared) l.counts l.bytes l.i l.invariant (omega arith)

@@ -11,7 +11,7 @@ use Rattle.composing.proofs.put_layout.Goals as goal
 
 -- src/lib.rt:127:5
 pub loop-i-init : goal.loop-i-init
-loop-i-init c = let a = c.args in (omega arith, (omega arith, (omega arith, (refl, λ rs h. (sym (end_first rs), wrote_as a.joined.now a.at (wrote_none a.joined.now a.at) (sym (places_first rs)))))))
+loop-i-init c = let a = c.args in (omega arith, (omega arith, (refl, λ rs h. (sym (end_first rs), wrote_as a.joined.now a.at (wrote_none a.joined.now a.at) (sym (places_first rs))))))
 
 -- src/lib.rt:128:24
 pub overflow_cast-n : goal.overflow_cast-n
@@ -27,15 +27,15 @@ bounds-counts-i c = omega (arith, c.requires.table_count_in_bounds.0)
 
 -- src/lib.rt:129:9
 pub put_word-requires : goal.put_word-requires
-put_word-requires c = let l = c.loop-i in omega (arith, l.invariant.1.0, l.invariant.1.1.1.0, c.requires.at_in_bounds)
+put_word-requires c = let l = c.loop-i in omega (arith, l.invariant.0, l.invariant.1.1.0, c.requires.at_in_bounds)
 
 -- src/lib.rt:130:26
 pub overflow_add-place : goal.overflow_add-place
-overflow_add-place c = let l = c.loop-i in omega (arith, l.invariant.1.0, c.requires.at_in_bounds)
+overflow_add-place c = let l = c.loop-i in omega (arith, l.invariant.0, c.requires.at_in_bounds)
 
 -- src/lib.rt:130:9
 pub put_word-requires-in-loop-i : goal.put_word-requires-in-loop-i
-put_word-requires-in-loop-i c = let l = c.loop-i in omega (arith, l.invariant.1.0, l.invariant.1.1.1.0, c.requires.at_in_bounds, stored_size l.joined _ l.place l.from c.put_word.ensures)
+put_word-requires-in-loop-i c = let l = c.loop-i in omega (arith, l.invariant.0, l.invariant.1.1.0, c.requires.at_in_bounds, stored_size l.joined _ l.place l.from c.put_word.ensures)
 
 -- src/lib.rt:131:31
 pub table_at-requires : goal.table_at-requires
@@ -59,30 +59,19 @@ overflow_add-from c = let n = get_or c.args.counts.now c.loop-i.i 0 in omega (ar
 
 -- src/lib.rt:132:9
 pub overflow_add-place-in-loop-i : goal.overflow_add-place-in-loop-i
-overflow_add-place-in-loop-i c = let l = c.loop-i in omega (arith, l.invariant.1.0, c.requires.at_in_bounds)
-
--- src/lib.rt:133:9
-pub overflow_add-i : goal.overflow_add-i
-overflow_add-i c = omega arith
-
--- src/lib.rt:127:5
-pub loop-i-smaller : goal.loop-i-smaller
-loop-i-smaller c = omega arith
+overflow_add-place-in-loop-i c = let l = c.loop-i in omega (arith, l.invariant.0, c.requires.at_in_bounds)
 
 -- src/lib.rt:127:5
 pub loop-i-preserved : goal.loop-i-preserved
 loop-i-preserved c = let a = c.args in let l = c.loop-i in let n = get_or a.counts.now l.i 0 in (
-  omega arith,
+  omega (arith, l.invariant.0),
   (
-    omega (arith, l.invariant.1.0),
+    omega (arith, l.invariant.1.0, ap (λ (x : Shape). x.width * n) c.shape_of.ensures, row_words c.table_at.result n, c.requires.table_count_in_bounds.1 l.i (omega arith)),
     (
-      omega (arith, l.invariant.1.1.0, ap (λ (x : Shape). x.width * n) c.shape_of.ensures, row_words c.table_at.result n, c.requires.table_count_in_bounds.1 l.i (omega arith)),
-      (
-        stored_size _ _ _ _ c.put_word-in-loop-i.ensures ∙ stored_size _ _ _ _ c.put_word.ensures ∙ l.invariant.1.1.1.0,
-        λ rs h. let q = l.invariant.1.1.1.1 rs h in let k = kept_at a.counts.now table_count (λ i. length (rs (table_at i))) h l.i (omega arith) in (
-          layout_end rs l.i l.from n c.table_at.result c.shape_of.result (omega arith) c.table_at.ensures c.shape_of.ensures q.0 k,
-          layout_turn rs a.joined.now a.at l.i l.from n (omega arith) q.0 k q.1 c.put_word.ensures c.put_word-in-loop-i.ensures,
-        ),
+      stored_size _ _ _ _ c.put_word-in-loop-i.ensures ∙ stored_size _ _ _ _ c.put_word.ensures ∙ l.invariant.1.1.0,
+      λ rs h. let q = l.invariant.1.1.1 rs h in let k = kept_at a.counts.now table_count (λ i. length (rs (table_at i))) h l.i (omega arith) in (
+        layout_end rs l.i l.from n c.table_at.result c.shape_of.result (omega arith) c.table_at.ensures c.shape_of.ensures q.0 k,
+        layout_turn rs a.joined.now a.at l.i l.from n (omega arith) q.0 k q.1 c.put_word.ensures c.put_word-in-loop-i.ensures,
       ),
     ),
   ),
@@ -90,16 +79,16 @@ loop-i-preserved c = let a = c.args in let l = c.loop-i in let n = get_or a.coun
 
 -- src/lib.rt:135:5
 pub put_word-requires-2 : goal.put_word-requires-2
-put_word-requires-2 c = let l = c.loop-i in omega (arith, l.invariant.1.0, l.invariant.1.1.1.0, l.invariant.0, c.requires.at_in_bounds)
+put_word-requires-2 c = let l = c.loop-i in omega (arith, l.invariant.0, l.invariant.1.1.0, l.auto, c.requires.at_in_bounds)
 
 -- src/lib.rt:136:5
 pub overflow_add-result : goal.overflow_add-result
-overflow_add-result c = let l = c.loop-i in omega (arith, l.invariant.1.0, l.invariant.0, c.requires.at_in_bounds)
+overflow_add-result c = let l = c.loop-i in omega (arith, l.invariant.0, l.auto, c.requires.at_in_bounds)
 
 -- src/lib.rt:119:1
 pub shape_of-joined : goal.shape_of-joined
-shape_of-joined c = stored_size _ _ _ _ c.put_word-2.ensures ∙ c.loop-i.invariant.1.1.1.0
+shape_of-joined c = stored_size _ _ _ _ c.put_word-2.ensures ∙ c.loop-i.invariant.1.1.0
 
 -- src/lib.rt:119:1
 pub returns : goal.returns
-returns c = let a = c.args in let l = c.loop-i in λ rs h. let q = l.invariant.1.1.1.1 rs h in layout_done rs a.joined.now a.at l.i l.from (omega (arith, l.invariant.0)) q.0 q.1 c.put_word-2.ensures
+returns c = let a = c.args in let l = c.loop-i in λ rs h. let q = l.invariant.1.1.1 rs h in layout_done rs a.joined.now a.at l.i l.from (omega (arith, l.auto)) q.0 q.1 c.put_word-2.ensures

@@ -1,4 +1,4 @@
-use Prim.Native.Nat.{ℕ, ◌+◌, ◌*◌, ◌-◌, ◌≤◌}
+use Prim.Native.Nat.{ℕ, ◌+◌, ◌*◌, ◌≤◌}
 use mathlib.Core.Path.{◌≡◌}
 use mathlib.Core.List.{List}
 use lib.ListN.{length}
@@ -8,7 +8,4 @@ use Rattle.composing.proofs.Writing.{end_to, places_to}
 use Rattle.composing.proofs.put_layout.Given as goal
 
 abbrev pub invariant-loop-i : goal.invariant-loop-i
-invariant-loop-i l = (l.i ≤ 10) × ((l.place ≡ l.at + 8 * l.i) × ((l.from ≤ l.i * 131072) × ((length l.joined ≡ length l.initial.joined) × ((rs : Table → List (List ℕ)) → Tallied rs l.counts → (l.from ≡ end_to rs l.i) × Wrote l.initial.joined l.at (places_to rs l.i) l.place l.joined))))
-
-abbrev pub decreases-loop-i : goal.decreases-loop-i
-decreases-loop-i l = 10 - l.i
+invariant-loop-i l = (l.place ≡ l.at + 8 * l.i) × ((l.from ≤ l.i * 131072) × ((length l.joined ≡ length l.initial.joined) × ((rs : Table → List (List ℕ)) → Tallied rs l.counts → (l.from ≡ end_to rs l.i) × Wrote l.initial.joined l.at (places_to rs l.i) l.place l.joined)))

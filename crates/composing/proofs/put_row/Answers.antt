@@ -15,7 +15,7 @@ shape_of-width-requires c = tt
 
 -- src/lib.rt:69:5
 pub loop-j-init : goal.loop-j-init
-loop-j-init c = let a = c.args in (omega arith, (omega arith, wrote_none a.joined.now a.at))
+loop-j-init c = let a = c.args in (omega arith, wrote_none a.joined.now a.at)
 
 -- src/lib.rt:70:33
 pub word_of-requires : goal.word_of-requires
@@ -23,29 +23,21 @@ word_of-requires c = let p = c.requires in let g = ap (λ (x : Shape). x.width) 
 
 -- src/lib.rt:70:9
 pub put_word-requires : goal.put_word-requires
-put_word-requires c = let a = c.args in let p = c.requires in let g = ap (λ (x : Shape). x.width) c.shape_of-width.ensures in let l = c.loop-j in omega (arith, l.invariant.1.0, p.row_bound.1, wrote_size a.joined.now a.at l.invariant.1.1)
+put_word-requires c = let a = c.args in let p = c.requires in let g = ap (λ (x : Shape). x.width) c.shape_of-width.ensures in let l = c.loop-j in omega (arith, l.invariant.0, p.row_bound.1, wrote_size a.joined.now a.at l.invariant.1)
 
 -- src/lib.rt:71:9
 pub overflow_add-place : goal.overflow_add-place
-overflow_add-place c = let a = c.args in let p = c.requires in let g = ap (λ (x : Shape). x.width) c.shape_of-width.ensures in let l = c.loop-j in omega (arith, l.invariant.1.0, p.row_bound.1)
-
--- src/lib.rt:72:9
-pub overflow_add-j : goal.overflow_add-j
-overflow_add-j c = omega arith
-
--- src/lib.rt:69:5
-pub loop-j-smaller : goal.loop-j-smaller
-loop-j-smaller c = omega arith
+overflow_add-place c = let a = c.args in let p = c.requires in let g = ap (λ (x : Shape). x.width) c.shape_of-width.ensures in let l = c.loop-j in omega (arith, l.invariant.0, p.row_bound.1)
 
 -- src/lib.rt:69:5
 pub loop-j-preserved : goal.loop-j-preserved
 loop-j-preserved c = let a = c.args in let p = c.requires in let g = ap (λ (x : Shape). x.width) c.shape_of-width.ensures in let l = c.loop-j in let x = both_row a.first.now a.second.now a.shared a.table a.row in let m = both_wide a.first.now a.second.now a.shared a.table a.row p.row_bound.0 in
-    (omega arith, (omega (arith, l.invariant.1.0), wrote_turn a.joined.now a.at x l.j (omega arith) l.invariant.1.1 (c.put_word.ensures ∙ ap (λ (w : ℕ). sets l.joined l.place (bytes_of 4 w)) c.word_of.ensures)))
+    (omega (arith, l.invariant.0), wrote_turn a.joined.now a.at x l.j (omega arith) l.invariant.1 (c.put_word.ensures ∙ ap (λ (w : ℕ). sets l.joined l.place (bytes_of 4 w)) c.word_of.ensures))
 
 -- src/lib.rt:61:1
 pub shape_of-joined : goal.shape_of-joined
-shape_of-joined c = wrote_size c.args.joined.now c.args.at c.loop-j.invariant.1.1
+shape_of-joined c = wrote_size c.args.joined.now c.args.at c.loop-j.invariant.1
 
 -- src/lib.rt:61:1
 pub returns : goal.returns
-returns c = let a = c.args in let p = c.requires in let g = ap (λ (x : Shape). x.width) c.shape_of-width.ensures in let l = c.loop-j in wrote_row a.joined.now a.at (both_row a.first.now a.second.now a.shared a.table a.row) l.j (omega (arith, both_wide a.first.now a.second.now a.shared a.table a.row p.row_bound.0)) l.invariant.1.1
+returns c = let a = c.args in let p = c.requires in let g = ap (λ (x : Shape). x.width) c.shape_of-width.ensures in let l = c.loop-j in wrote_row a.joined.now a.at (both_row a.first.now a.second.now a.shared a.table a.row) l.j (omega (arith, both_wide a.first.now a.second.now a.shared a.table a.row p.row_bound.0)) l.invariant.1

@@ -1,4 +1,3 @@
-use Prim.Native.Nat.{◌-◌, ◌≤◌}
 use mathlib.Core.Path.{◌≡◌}
 use mathlib.Core.List.{◌∷◌, []}
 use Rattle.plan.specs.declared.Table.TheVariants.{Cores}
@@ -9,7 +8,4 @@ use Rattle.drafts.specs.Edits.{store_rows}
 use Rattle.copying.proofs.copy_cores.Given as goal
 
 abbrev pub invariant-loop-core : goal.invariant-loop-core
-invariant-loop-core l = (l.cores ≡ rows l.image Cores) × (l.core ≤ l.cores) × (l.words ≡ store_rows core_at (λ x. (Image.core l.image x).d ∷ []) l.core l.initial.words)
-
-abbrev pub decreases-loop-core : goal.decreases-loop-core
-decreases-loop-core l = l.cores - l.core
+invariant-loop-core l = (l.cores ≡ rows l.image Cores) × (l.words ≡ store_rows core_at (λ x. (Image.core l.image x).d ∷ []) l.core l.initial.words)

@@ -1,4 +1,3 @@
-use mathlib.Core.Path.{refl}
 use native.Mathlib.Omega.{arith}
 use lib.ListN.{length-set}
 use Rattle.drafts.specs.Drafts.{draft_words}
@@ -15,6 +14,3 @@ bounds-words-1 c = rw length-set (omega (arith, c.requires.1))
 pub bounds-words-2 : goal.bounds-words-2
 unfolding draft_words
 bounds-words-2 c = rw (length-set, length-set) (omega (arith, c.requires.1))
-
-pub returns : goal.returns
-returns c = rw (c.cycle_ticks-cycle.ensures, c.rows_of-cores.ensures, c.rows_of-tasks.ensures) refl

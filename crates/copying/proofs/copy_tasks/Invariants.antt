@@ -1,4 +1,3 @@
-use Prim.Native.Nat.{◌-◌, ◌≤◌}
 use mathlib.Core.Path.{◌≡◌}
 use mathlib.Core.List.{◌∷◌, []}
 use Rattle.plan.specs.declared.Table.TheVariants.{Tasks}
@@ -10,7 +9,4 @@ use Rattle.drafts.specs.Edits.{store_rows}
 use Rattle.copying.proofs.copy_tasks.Given as goal
 
 abbrev pub invariant-loop-task : goal.invariant-loop-task
-invariant-loop-task l = (l.tasks ≡ rows l.image Tasks) × (l.task ≤ l.tasks) × (l.words ≡ store_rows task_at (λ x. core_of l.image x ∷ (Image.task l.image x).period ∷ (Image.task l.image x).deadline ∷ []) l.task l.initial.words)
-
-abbrev pub decreases-loop-task : goal.decreases-loop-task
-decreases-loop-task l = l.tasks - l.task
+invariant-loop-task l = (l.tasks ≡ rows l.image Tasks) × (l.words ≡ store_rows task_at (λ x. core_of l.image x ∷ (Image.task l.image x).period ∷ (Image.task l.image x).deadline ∷ []) l.task l.initial.words)

@@ -5,11 +5,5 @@ use Rattle.counting.proofs.count_at.Goals as goal
 pub returns-then-is_free : goal.returns-then-is_free
 returns-then-is_free c = let a = c.args in rw (counted_none a.more a.piece a.words.now a.place (sym c.is_free.ensures ∙ c.if-is_free.true)) refl
 
-pub with_part-rank-requires : goal.with_part-rank-requires
-with_part-rank-requires c = let k = c.requires.countable (sym c.is_free.ensures ∙ c.if-is_free.false) in rw (c.rank_at.ensures, c.rank_part.ensures, c.piece_at-here.ensures) (k.rank_fits, k.rank_holds)
-
-pub with_part-total-requires : goal.with_part-total-requires
-with_part-total-requires c = let k = c.requires.countable (sym c.is_free.ensures ∙ c.if-is_free.false) in rw (c.total_at.ensures, c.total_part.ensures, c.piece_at-here.ensures) (k.total_fits, k.total_holds)
-
 pub returns : goal.returns
 returns c = let a = c.args in c.store_sums.ensures ∙ (rw (counted_two a.more a.piece a.words.now a.place (sym c.is_free.ensures ∙ c.if-is_free.false), c.with_part-total.ensures, c.with_part-rank.ensures, c.total_part.ensures, c.rank_part.ensures, c.total_at.ensures, c.rank_at.ensures, c.piece_at-here.ensures) refl)

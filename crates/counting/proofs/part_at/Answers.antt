@@ -1,9 +1,6 @@
-use mathlib.Core.Path.{refl, sym, ◌∙◌}
+use mathlib.Core.Path.{sym, ◌∙◌}
 use Rattle.counting.specs.Counting.{rank_part}
 use Rattle.counting.proofs.part_at.Goals as goal
-
-pub returns-then-is_free : goal.returns-then-is_free
-returns-then-is_free c = rw (sym c.is_free.ensures ∙ c.if-is_free.true) refl
 
 pub returns : goal.returns
 unfolding rank_part

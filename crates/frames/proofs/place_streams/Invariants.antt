@@ -1,4 +1,4 @@
-use Prim.Native.Nat.{◌-◌, ◌≤◌}
+use Prim.Native.Nat.{◌≤◌}
 use mathlib.Core.Path.{◌≡◌}
 use Rattle.plan.specs.Image.{most_streams}
 use Rattle.frames.specs.Index.{begins}
@@ -6,7 +6,4 @@ use Rattle.frames.proofs.Gathering.{Begun}
 use Rattle.frames.proofs.place_streams.Given as goal
 
 abbrev pub invariant-loop-stream : goal.invariant-loop-stream
-invariant-loop-stream l = (l.stream ≤ l.streams) × (l.streams ≤ most_streams) × (l.place ≡ begins l.image l.stream) × Begun l.image l.index l.stream
-
-abbrev pub decreases-loop-stream : goal.decreases-loop-stream
-decreases-loop-stream l = l.streams - l.stream
+invariant-loop-stream l = (l.streams ≤ most_streams) × (l.place ≡ begins l.image l.stream) × Begun l.image l.index l.stream

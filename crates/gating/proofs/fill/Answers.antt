@@ -1,29 +1,23 @@
-use mathlib.Core.Path.{refl}
+use mathlib.Core.Path.{refl, ◌∙◌}
 use native.Mathlib.Omega.{arith}
-use lib.ListN.{length, get_or}
-use Rattle.gating.proofs.Answers.{words_kept, words_done, count_is, many_is, take_is}
+use lib.ListN.{length}
+use Rattle.gating.proofs.Answers.{words_kept, words_done, many_is, take_is}
 use Rattle.gating.proofs.fill.Goals as goal
 
--- src/lib.rt:82:9
-pub returns-then-answer-ne0 : goal.returns-then-answer-ne0
-returns-then-answer-ne0 c = let a = c.args in let s = a.image.now in let g = c.list_gates-answer in (g.ensures.answer a.words.now refl, words_kept s a.link (length a.words.now) _ g.result g.new.list g.ensures a.words.now refl c.if-answer-ne0.true)
+pub returns-in-Err : goal.returns-in-Err
+returns-in-Err c = let a = c.args in let h = c.in-Err.ensures in (h.answer a.words.now refl, words_kept a.image.now a.link (length a.words.now) c.in-Err.no h a.words.now refl)
 
--- src/lib.rt:85:25
 pub overflow_cast-count : goal.overflow_cast-count
-overflow_cast-count c = let a = c.args in let s = a.image.now in let g = c.list_gates-answer in let n = count_is s a.link (length a.words.now) _ g.result g.new.list g.ensures refl c.if-answer-ne0.false in let m = many_is s a.link (length a.words.now) _ g.result g.new.list g.ensures refl c.if-answer-ne0.false (get_or g.new.list 0 0) n in omega (arith, g.ensures.most c.if-answer-ne0.false)
+overflow_cast-count c = let a = c.args in let s = a.image.now in let h = c.in-Ok.ensures in let m = many_is s a.link (length a.words.now) _ c.in-Ok.count c.list_gates.new.list h in omega (arith, h.most)
 
--- src/lib.rt:85:21
 pub overflow_mul-count : goal.overflow_mul-count
-overflow_mul-count c = let a = c.args in let s = a.image.now in let g = c.list_gates-answer in let n = count_is s a.link (length a.words.now) _ g.result g.new.list g.ensures refl c.if-answer-ne0.false in let m = many_is s a.link (length a.words.now) _ g.result g.new.list g.ensures refl c.if-answer-ne0.false (get_or g.new.list 0 0) n in omega (arith, g.ensures.most c.if-answer-ne0.false)
+overflow_mul-count c = let a = c.args in let s = a.image.now in let h = c.in-Ok.ensures in let m = many_is s a.link (length a.words.now) _ c.in-Ok.count c.list_gates.new.list h in omega (arith, h.most)
 
--- src/lib.rt:85:17
 pub overflow_add-count : goal.overflow_add-count
-overflow_add-count c = let a = c.args in let s = a.image.now in let g = c.list_gates-answer in let n = count_is s a.link (length a.words.now) _ g.result g.new.list g.ensures refl c.if-answer-ne0.false in let m = many_is s a.link (length a.words.now) _ g.result g.new.list g.ensures refl c.if-answer-ne0.false (get_or g.new.list 0 0) n in omega (arith, g.ensures.most c.if-answer-ne0.false)
+overflow_add-count c = let a = c.args in let s = a.image.now in let h = c.in-Ok.ensures in let m = many_is s a.link (length a.words.now) _ c.in-Ok.count c.list_gates.new.list h in omega (arith, h.most)
 
--- src/lib.rt:75:1
-pub returns : goal.returns
-returns c = let a = c.args in let s = a.image.now in let g = c.list_gates-answer in let n = count_is s a.link (length a.words.now) _ g.result g.new.list g.ensures refl c.if-answer-ne0.false in let m = many_is s a.link (length a.words.now) _ g.result g.new.list g.ensures refl c.if-answer-ne0.false (get_or g.new.list 0 0) n in (g.ensures.answer a.words.now refl, rw (c.copy.ensures, take_is s a.link (length a.words.now) _ g.result g.new.list g.ensures refl c.if-answer-ne0.false (get_or g.new.list 0 0) n) (words_done s a.link (length a.words.now) _ g.result g.new.list g.ensures a.words.now refl c.if-answer-ne0.false))
-
--- src/lib.rt:85:5
 pub copy-requires : goal.copy-requires
-copy-requires c = let a = c.args in let s = a.image.now in let g = c.list_gates-answer in let n = count_is s a.link (length a.words.now) _ g.result g.new.list g.ensures refl c.if-answer-ne0.false in let m = many_is s a.link (length a.words.now) _ g.result g.new.list g.ensures refl c.if-answer-ne0.false (get_or g.new.list 0 0) n in (omega (arith, g.ensures.most c.if-answer-ne0.false, g.auto.list), omega (arith, g.ensures.fits c.if-answer-ne0.false))
+copy-requires c = let a = c.args in let s = a.image.now in let h = c.in-Ok.ensures in let m = many_is s a.link (length a.words.now) _ c.in-Ok.count c.list_gates.new.list h in (omega (arith, h.most, c.list_gates.auto.list), omega (arith, h.fits))
+
+pub returns-in-Ok : goal.returns-in-Ok
+returns-in-Ok c = let a = c.args in let s = a.image.now in let h = c.in-Ok.ensures in (c.accepted.ensures ∙ h.answer a.words.now refl, rw (c.copy.ensures, take_is s a.link (length a.words.now) _ c.in-Ok.count c.list_gates.new.list h refl) (words_done s a.link (length a.words.now) _ c.in-Ok.count c.list_gates.new.list h a.words.now refl))

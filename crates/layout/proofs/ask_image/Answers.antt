@@ -1,35 +1,65 @@
-use mathlib.Core.Path.{sym, ◌∙◌}
-use Rattle.layout.proofs.Wholes.{long_enough, no_1, no_2, no_3, no_4, yes_4}
+use Rattle.std.proofs.Common.{rules, refl, arith}
+use mathlib.Core.Path.{sym, ap, ◌∙◌}
+use Rattle.plan.specs.Questions.{image_questions, question_at, whole}
+use Rattle.plan.proofs.Asking.{passed_none}
+use Rattle.asking.proofs.Verdicts.{AskedTo, asks_whole, stopped, all_told, holds}
+use Rattle.layout.specs.Tests.{length_fits, laid_out, ticks_fit}
+use Rattle.layout.proofs.Wholes.{long_enough}
 use Rattle.layout.proofs.ask_image.Goals as goal
 
--- src/lib.rt:122:9
-pub returns-then-not-length_fits : goal.returns-then-not-length_fits
-returns-then-not-length_fits c = let s = c.args.image.now in c.refused.ensures ∙ sym (no_1 s (sym c.length_fits.ensures ∙ c.if-not-length_fits.true))
-
--- src/lib.rt:124:9
 pub points_back-requires : goal.points_back-requires
-points_back-requires c = long_enough c.args.image.now (sym c.length_fits.ensures ∙ c.if-not-length_fits.false)
+points_back-requires c = long_enough c.args.image.now (sym c.length_fits.ensures ∙ holds 1 _ _ c.whole.ensures c.in_ok-whole.was)
 
--- src/lib.rt:125:9
-pub returns-then-not-points_back : goal.returns-then-not-points_back
-returns-then-not-points_back c = let s = c.args.image.now in c.refused-then-not-points_back.ensures ∙ sym (no_2 s (sym c.length_fits.ensures ∙ c.if-not-length_fits.false) (sym c.points_back.ensures ∙ c.if-not-points_back.true))
-
--- src/lib.rt:127:9
 pub laid_out-requires : goal.laid_out-requires
-laid_out-requires c = long_enough c.args.image.now (sym c.length_fits.ensures ∙ c.if-not-length_fits.false)
+laid_out-requires c = long_enough c.args.image.now (sym c.length_fits.ensures ∙ holds 1 _ _ c.whole.ensures c.in_ok-whole.was)
 
--- src/lib.rt:128:9
-pub returns-then-not-laid_out : goal.returns-then-not-laid_out
-returns-then-not-laid_out c = let s = c.args.image.now in c.refused-then-not-laid_out.ensures ∙ sym (no_3 s (sym c.length_fits.ensures ∙ c.if-not-length_fits.false) (sym c.points_back.ensures ∙ c.if-not-points_back.false) (sym c.laid_out.ensures ∙ c.if-not-laid_out.true))
-
--- src/lib.rt:130:9
 pub ticks_fit-requires : goal.ticks_fit-requires
-ticks_fit-requires c = long_enough c.args.image.now (sym c.length_fits.ensures ∙ c.if-not-length_fits.false)
+ticks_fit-requires c = long_enough c.args.image.now (sym c.length_fits.ensures ∙ holds 1 _ _ c.whole.ensures c.in_ok-whole.was)
 
--- src/lib.rt:131:9
-pub returns-then-not-ticks_fit : goal.returns-then-not-ticks_fit
-returns-then-not-ticks_fit c = let s = c.args.image.now in c.refused-then-not-ticks_fit.ensures ∙ sym (no_4 s (sym c.length_fits.ensures ∙ c.if-not-length_fits.false) (sym c.points_back.ensures ∙ c.if-not-points_back.false) (sym c.laid_out.ensures ∙ c.if-not-laid_out.false) (sym c.ticks_fit.ensures ∙ c.if-not-ticks_fit.true))
+pub returns-in_err-whole : goal.returns-in_err-whole
+unfolding image_questions question_at length_fits laid_out ticks_fit
+returns-in_err-whole c =
+    let s = c.args.image.now in
+    let qs = image_questions s in
+    let told_1 : AskedTo qs 1 c.whole.result =
+    asks_whole qs 0 1 c.length_fits.result _ (ap (whole 1) (sym c.length_fits.ensures)) (omega arith) (passed_none qs) c.whole.ensures in
+    stopped qs 1 _ _ c.in_err-whole.field-0.0 told_1 c.in_err-whole.was (search rules)
 
--- src/lib.rt:118:1
+pub returns-in_err-whole-2 : goal.returns-in_err-whole-2
+unfolding image_questions question_at length_fits laid_out ticks_fit
+returns-in_err-whole-2 c =
+    let s = c.args.image.now in
+    let qs = image_questions s in
+    let told_1 : AskedTo qs 1 c.whole.result =
+    asks_whole qs 0 1 c.length_fits.result _ (ap (whole 1) (sym c.length_fits.ensures)) (omega arith) (passed_none qs) c.whole.ensures in
+    let told_2 : AskedTo qs 2 c.whole-2.result =
+    asks_whole qs 1 2 c.points_back.result _ (ap (whole 2) (sym c.points_back.ensures)) (omega arith) (told_1.passed c.in_ok-whole.was) c.whole-2.ensures in
+    stopped qs 2 _ _ c.in_err-whole-2.field-0.0 told_2 c.in_err-whole-2.was (search rules)
+
+pub returns-in_err-whole-3 : goal.returns-in_err-whole-3
+unfolding image_questions question_at length_fits laid_out ticks_fit
+returns-in_err-whole-3 c =
+    let s = c.args.image.now in
+    let qs = image_questions s in
+    let told_1 : AskedTo qs 1 c.whole.result =
+    asks_whole qs 0 1 c.length_fits.result _ (ap (whole 1) (sym c.length_fits.ensures)) (omega arith) (passed_none qs) c.whole.ensures in
+    let told_2 : AskedTo qs 2 c.whole-2.result =
+    asks_whole qs 1 2 c.points_back.result _ (ap (whole 2) (sym c.points_back.ensures)) (omega arith) (told_1.passed c.in_ok-whole.was) c.whole-2.ensures in
+    let told_3 : AskedTo qs 3 c.whole-3.result =
+    asks_whole qs 2 3 c.laid_out.result _ (ap (whole 3) (sym c.laid_out.ensures)) (omega arith) (told_2.passed c.in_ok-whole-2.was) c.whole-3.ensures in
+    stopped qs 3 _ _ c.in_err-whole-3.field-0.0 told_3 c.in_err-whole-3.was (search rules)
+
 pub returns : goal.returns
-returns c = let s = c.args.image.now in c.accepted.ensures ∙ sym (yes_4 s (sym c.length_fits.ensures ∙ c.if-not-length_fits.false) (sym c.points_back.ensures ∙ c.if-not-points_back.false) (sym c.laid_out.ensures ∙ c.if-not-laid_out.false) (sym c.ticks_fit.ensures ∙ c.if-not-ticks_fit.false))
+unfolding image_questions question_at length_fits laid_out ticks_fit
+returns c =
+    let s = c.args.image.now in
+    let qs = image_questions s in
+    let told_1 : AskedTo qs 1 c.whole.result =
+    asks_whole qs 0 1 c.length_fits.result _ (ap (whole 1) (sym c.length_fits.ensures)) (omega arith) (passed_none qs) c.whole.ensures in
+    let told_2 : AskedTo qs 2 c.whole-2.result =
+    asks_whole qs 1 2 c.points_back.result _ (ap (whole 2) (sym c.points_back.ensures)) (omega arith) (told_1.passed c.in_ok-whole.was) c.whole-2.ensures in
+    let told_3 : AskedTo qs 3 c.whole-3.result =
+    asks_whole qs 2 3 c.laid_out.result _ (ap (whole 3) (sym c.laid_out.ensures)) (omega arith) (told_2.passed c.in_ok-whole-2.was) c.whole-3.ensures in
+    let told_4 : AskedTo qs 4 c.whole-4.result =
+    asks_whole qs 3 4 c.ticks_fit.result _ (ap (whole 4) (sym c.ticks_fit.ensures)) (omega arith) (told_3.passed c.in_ok-whole-3.was) c.whole-4.ensures in
+    all_told qs 4 _ refl told_4

@@ -15,39 +15,27 @@ use Rattle.messages.proofs.Framing.{leaves, hop_link, goes_on, breaks_off, arriv
 use Rattle.frames.proofs.Reading.{frame_exists}
 use Rattle.messages.proofs.hops_joined.Goals as goal
 
-pub stream_at-m-requires : goal.stream_at-m-requires
-stream_at-m-requires c = let p = c.requires in record { in_image = p.0.sound.inside; row_bound = p.1.1.row }
-
 pub node_of-node-requires : goal.node_of-node-requires
 node_of-node-requires c = let p = c.requires in (p.0.sound, rw c.stream_at-m.ensures (p.0.sound.names Streams c.args.stream p.1.1.row).0)
 
 pub loop-hop-init : goal.loop-hop-init
 unfolding all reached
-loop-hop-init c = (omega arith, c.node_of-node.ensures ∙ ap (λ (x : Stream). node_of c.args.image.now x.sender) c.stream_at-m.ensures, refl)
+loop-hop-init c = (c.node_of-node.ensures ∙ ap (λ (x : Stream). node_of c.args.image.now x.sender) c.stream_at-m.ensures, refl)
 
-pub frame_of-frame-requires : goal.frame_of-frame-requires
-frame_of-frame-requires c = let p = c.requires in let g = ap (λ (x : Stream). x.hops) c.stream_at-m.ensures in record { framed = (p.0, p.1.0); job_of = (p.1.1, omega arith) }
+pub frame_at-requires-clause-row_bound : goal.frame_at-requires-clause-row_bound
+frame_at-requires-clause-row_bound c = let a = c.args in let p = c.requires in let g = ap (λ (x : Stream). x.hops) c.stream_at-m.ensures in let h = c.loop-hop.hop in rw c.frame_of-frame.ensures (frame_exists a.image.now p.0 a.stream a.job h p.1.1 (omega arith))
 
-pub frame_at-requires : goal.frame_at-requires
-frame_at-requires c = let a = c.args in let p = c.requires in let g = ap (λ (x : Stream). x.hops) c.stream_at-m.ensures in let h = c.loop-hop.hop in record { in_image = p.0.sound.inside; row_bound = rw c.frame_of-frame.ensures (frame_exists a.image.now p.0 a.stream a.job h p.1.1 (omega arith)) }
-
-pub link_at-link-requires : goal.link_at-link-requires
-link_at-link-requires c = let a = c.args in let p = c.requires in let g = ap (λ (x : Stream). x.hops) c.stream_at-m.ensures in let h = c.loop-hop.hop in record { in_image = p.0.sound.inside; row_bound = rw (c.frame_at.ensures, c.frame_of-frame.ensures) (p.0.sound.names Frames _ (frame_exists a.image.now p.0 a.stream a.job h p.1.1 (omega arith))).1 }
+pub link_at-link-requires-clause-row_bound : goal.link_at-link-requires-clause-row_bound
+link_at-link-requires-clause-row_bound c = let a = c.args in let p = c.requires in let g = ap (λ (x : Stream). x.hops) c.stream_at-m.ensures in let h = c.loop-hop.hop in rw (c.frame_at.ensures, c.frame_of-frame.ensures) (p.0.sound.names Frames _ (frame_exists a.image.now p.0 a.stream a.job h p.1.1 (omega arith))).1
 
 pub returns-then-link-node : goal.returns-then-link-node
-returns-then-link-node c = let a = c.args in let s = a.image.now in let l = c.loop-hop in let m = c.stream_at-m in let g = ap (λ (x : Stream). x.hops) m.ensures in let r = c.frame_of-frame in let f = c.frame_at in let k = c.link_at-link in let e = hop_link s a.stream a.job l.hop r.result f.result k.result r.ensures f.ensures k.ensures in let d = ap (λ (x : Link). x.from) e in breaks_off s a.stream a.job l.hop (omega arith) (ne_eqb _ _ (λ z. c.if-link-node.true (d ∙ z ∙ sym l.invariant.1)))
-
-pub overflow_add-hop : goal.overflow_add-hop
-overflow_add-hop c = let a = c.args in let p = c.requires in let g = ap (λ (x : Stream). x.hops) c.stream_at-m.ensures in omega (arith, c.loop-hop.invariant.0, (p.0.sound.ranges Streams a.stream p.1.1.row).3)
-
-pub loop-hop-smaller : goal.loop-hop-smaller
-loop-hop-smaller c = omega arith
+returns-then-link-node c = let a = c.args in let s = a.image.now in let l = c.loop-hop in let m = c.stream_at-m in let g = ap (λ (x : Stream). x.hops) m.ensures in let r = c.frame_of-frame in let f = c.frame_at in let k = c.link_at-link in let e = hop_link s a.stream a.job l.hop r.result f.result k.result r.ensures f.ensures k.ensures in let d = ap (λ (x : Link). x.from) e in breaks_off s a.stream a.job l.hop (omega arith) (ne_eqb _ _ (λ z. c.if-link-node.true (d ∙ z ∙ sym l.invariant.0)))
 
 pub loop-hop-preserved : goal.loop-hop-preserved
-loop-hop-preserved c = let a = c.args in let s = a.image.now in let l = c.loop-hop in let m = c.stream_at-m in let g = ap (λ (x : Stream). x.hops) m.ensures in let r = c.frame_of-frame in let f = c.frame_at in let k = c.link_at-link in let e = hop_link s a.stream a.job l.hop r.result f.result k.result r.ensures f.ensures k.ensures in let d = ap (λ (x : Link). x.from) e in (omega arith, goes_on s a.stream a.job l.hop k.result e, rw (add-one l.hop) (all_turn (leaves s a.stream a.job) l.hop l.invariant.2 (eq-eqb _ _ (sym d ∙ c.if-link-node.false ∙ l.invariant.1))))
+loop-hop-preserved c = let a = c.args in let s = a.image.now in let l = c.loop-hop in let m = c.stream_at-m in let g = ap (λ (x : Stream). x.hops) m.ensures in let r = c.frame_of-frame in let f = c.frame_at in let k = c.link_at-link in let e = hop_link s a.stream a.job l.hop r.result f.result k.result r.ensures f.ensures k.ensures in let d = ap (λ (x : Link). x.from) e in (goes_on s a.stream a.job l.hop k.result e, rw (add-one l.hop) (all_turn (leaves s a.stream a.job) l.hop l.invariant.1 (eq-eqb _ _ (sym d ∙ c.if-link-node.false ∙ l.invariant.0))))
 
 pub node_of-requires : goal.node_of-requires
 node_of-requires c = let p = c.requires in (p.0.sound, rw c.stream_at-m.ensures (p.0.sound.names Streams c.args.stream p.1.1.row).1)
 
 pub returns : goal.returns
-returns c = let a = c.args in let s = a.image.now in let l = c.loop-hop in let m = c.stream_at-m in let g = ap (λ (x : Stream). x.hops) m.ensures in let e : l.hop ≡ (stream s a.stream).hops = omega arith in arrives s a.stream a.job l.node c.node_of.result (l.invariant.1 ∙ ap (reached s a.stream a.job) e) (c.node_of.ensures ∙ ap (λ (x : Stream). node_of s x.receiver) m.ensures) (subst (λ (n : ℕ). all n (leaves s a.stream a.job) ≡ true) e l.invariant.2)
+returns c = let a = c.args in let s = a.image.now in let l = c.loop-hop in let m = c.stream_at-m in let g = ap (λ (x : Stream). x.hops) m.ensures in let e : l.hop ≡ (stream s a.stream).hops = omega arith in arrives s a.stream a.job l.node c.node_of.result (l.invariant.0 ∙ ap (reached s a.stream a.job) e) (c.node_of.ensures ∙ ap (λ (x : Stream). node_of s x.receiver) m.ensures) (subst (λ (n : ℕ). all n (leaves s a.stream a.job) ≡ true) e l.invariant.1)

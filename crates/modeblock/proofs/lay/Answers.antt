@@ -1,4 +1,5 @@
 use Prim.Native.Nat.{ℕ, ◌+◌, ◌-◌, ◌*◌, ◌/◌, ◌≤◌}
+use Rattle.std.proofs.Common.{Some}
 use mathlib.Core.Path.{refl, ap, ◌∙◌}
 use native.Mathlib.Omega.{arith}
 use lib.ListN.{length}
@@ -26,6 +27,6 @@ returns c =
     let h : u + length (all_tables i) ≤ length v / 4 = omega (arith, c.if-all-end.false) in
     let k = room i u v h (omega (arith, c.if-end-ge4294967296.false)) in
     record {
-      value = rw k (ap (λ (x : ℕ). u + x) e);
+      value = rw k (ap (λ (x : ℕ). Some (u + x)) e);
       words_after = rw k (ap (put_mid (4 * u) (length v - 4 * u) v) c.write_all.ensures ∙ stored_part v (4 * u) (length v - 4 * u) (all_tables i) refl (omega arith));
     }

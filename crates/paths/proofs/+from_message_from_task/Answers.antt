@@ -36,7 +36,7 @@ from_task-bounds-marks-task t c = let p = c.requires in let m = p.0.sound.inside
 -- src/lib.rt:75:5
 pub from_task-loop-message-init : goal.from_task-loop-message-init
 unfolding any
-from_task-loop-message-init t c = (omega arith, c.requires.1.1, refl)
+from_task-loop-message-init t c = (c.requires.1.1, refl)
 
 -- src/lib.rt:77:13
 pub from_task-returns-then-from_message : goal.from_task-returns-then-from_message
@@ -44,14 +44,14 @@ from_task-returns-then-from_message t c = let a = c.args in let s = a.image.now 
 
 -- src/lib.rt:75:5
 pub from_task-loop-message-preserved : goal.from_task-loop-message-preserved
-from_task-loop-message-preserved t c = let a = c.args in let s = a.image.now in let l = c.loop-message in (omega (arith, c.loop-message-test.true), c.from_message.ensures.1, rw (add-one l.message) (any_turn (sent_on s a.task a.goal) l.message l.invariant.2 (sym c.from_message.ensures.0 ∙ c.if-from_message.false)))
+from_task-loop-message-preserved t c = let a = c.args in let s = a.image.now in let l = c.loop-message in (c.from_message.ensures.1, rw (add-one l.message) (any_turn (sent_on s a.task a.goal) l.message l.invariant.1 (sym c.from_message.ensures.0 ∙ c.if-from_message.false)))
 
 -- src/lib.rt:81:5
 pub from_task-bounds-marks-task-2 : goal.from_task-bounds-marks-task-2
 unfolding shape
-from_task-bounds-marks-task-2 t c = let p = c.requires in let m = p.0.sound.inside.counts Tasks in let e = c.loop-message.invariant.1.size in omega (arith, p.1.0)
+from_task-bounds-marks-task-2 t c = let p = c.requires in let m = p.0.sound.inside.counts Tasks in let e = c.loop-message.invariant.0.size in omega (arith, p.1.0)
 
 -- src/lib.rt:62:1
 pub from_task-returns : goal.from_task-returns
 unfolding shape
-from_task-returns t c = let a = c.args in let s = a.image.now in let p = c.requires in let l = c.loop-message in let e = c.message_count-messages.ensures in let m = p.0.sound.inside.counts Tasks in let q : l.message ≡ messages s = omega (arith, c.loop-message-test.false) in let d = leads_none s a.task a.goal c.if-task-goal.false (subst (λ (n : ℕ). any n (sent_on s a.task a.goal) ≡ false) q l.invariant.2) in (sym d, one_marked s a.goal l.marks a.task (omega (arith, p.1.0)) l.invariant.1 d)
+from_task-returns t c = let a = c.args in let s = a.image.now in let p = c.requires in let l = c.loop-message in let e = c.message_count-messages.ensures in let m = p.0.sound.inside.counts Tasks in let q : l.message ≡ messages s = omega (arith, c.loop-message-test.false) in let d = leads_none s a.task a.goal c.if-task-goal.false (subst (λ (n : ℕ). any n (sent_on s a.task a.goal) ≡ false) q l.invariant.1) in (sym d, one_marked s a.goal l.marks a.task (omega (arith, p.1.0)) l.invariant.0 d)

@@ -1,4 +1,4 @@
-use Prim.Native.Nat.{◌+◌, ◌-◌, ◌*◌, ◌≤◌}
+use Prim.Native.Nat.{◌+◌, ◌-◌, ◌*◌}
 use mathlib.Core.Path.{◌≡◌}
 use mathlib.Core.Bool.{false}
 use Rattle.plan.specs.Image.{cycle_ticks}
@@ -14,7 +14,4 @@ abbrev pub decreases-from_task : goal.decreases-from_task
 decreases-from_task l = 2 * (cycle_ticks l.image.now - first_start l.image.now l.task 0) + 1
 
 abbrev pub invariant-from_task-loop-message : goal.invariant-from_task-loop-message
-invariant-from_task-loop-message l = (l.message ≤ l.messages) × Marked l.image l.goal l.marks × (any l.message (sent_on l.image l.task l.goal) ≡ false)
-
-abbrev pub decreases-from_task-loop-message : goal.decreases-from_task-loop-message
-decreases-from_task-loop-message l = l.messages - l.message
+invariant-from_task-loop-message l = Marked l.image l.goal l.marks × (any l.message (sent_on l.image l.task l.goal) ≡ false)

@@ -1,16 +1,19 @@
+use Rattle.std.proofs.Common.{rules}
 use mathlib.Core.Path.{sym, ap, ◌∙◌}
-use Rattle.plan.specs.declared.Answer.{Answer}
-use Rattle.questions.proofs.Joining.{stop_pieces, pieces_passed, to_messages}
+use Rattle.plan.specs.Questions.{piece_questions}
+use Rattle.asking.specs.Asking.{verdict}
+use Rattle.asking.proofs.Verdicts.{stopped_before, gone_past}
+use Rattle.questions.proofs.Joining.{where_passed, pieces_passed, plan_in_turn}
 use Rattle.questions.proofs.ask_plan.Goals as goal
 
--- src/lib.rt:34:9
-pub returns-then-pieces-ne0 : goal.returns-then-pieces-ne0
-returns-then-pieces-ne0 c = let s = c.args.image.now in c.ask-pieces.ensures.0 ∙ sym (stop_pieces s (λ z. c.if-pieces-ne0.true (ap (λ (x : Answer). x.number) c.ask-pieces.ensures.0 ∙ z)))
+pub returns-in_err-ask : goal.returns-in_err-ask
+returns-in_err-ask c = let s = c.args.image.now in
+    stopped_before (piece_questions s) _ _ _ c.in_err-ask.field-0.0 c.ask.ensures.told c.in_err-ask.was (search rules) ∙ ap verdict (sym (plan_in_turn s))
 
--- src/lib.rt:36:5
 pub ask_messages-requires : goal.ask_messages-requires
-ask_messages-requires c = let s = c.args.image.now in let e = c.ask-pieces.ensures in let p = c.requires in (p.0, (p.1, (pieces_passed s (sym (ap (λ (x : Answer). x.number) e.0) ∙ c.if-pieces-ne0.false), e.1 c.if-pieces-ne0.false)))
+ask_messages-requires c = let p = c.requires in
+    (p.0, (p.1, (pieces_passed c.args.image.now (sym c.in_ok-ask.was ∙ c.ask.ensures.told), where_passed _ c.ask.result c.ask.ensures.timed c.in_ok-ask.was)))
 
--- src/lib.rt:27:1
 pub returns : goal.returns
-returns c = let s = c.args.image.now in c.ask_messages.ensures ∙ sym (to_messages s (sym (ap (λ (x : Answer). x.number) c.ask-pieces.ensures.0) ∙ c.if-pieces-ne0.false))
+returns c = let s = c.args.image.now in
+    gone_past (piece_questions s) _ _ _ c.ask.ensures.told c.in_ok-ask.was c.ask_messages.ensures ∙ ap verdict (sym (plan_in_turn s))

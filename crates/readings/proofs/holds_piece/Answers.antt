@@ -1,11 +1,8 @@
 use mathlib.Core.Path.{sym, ◌∙◌}
 use native.Mathlib.Omega.{arith}
 use Rattle.drafts.specs.Drafts.{places}
-use Rattle.readings.proofs.Readings.{headed_of, holds_none, holds_far, holds_here}
+use Rattle.readings.proofs.Readings.{headed_of, holds_far, holds_here}
 use Rattle.readings.proofs.holds_piece.Goals as goal
-
-pub returns-then-not-is_draft : goal.returns-then-not-is_draft
-returns-then-not-is_draft c = let a = c.args in holds_none a.words.now a.place (sym c.is_draft.ensures ∙ c.if-not-is_draft.true)
 
 pub returns-then-place-ge-PLACES : goal.returns-then-place-ge-PLACES
 returns-then-place-ge-PLACES c = let a = c.args in holds_far a.words.now a.place c.if-place-ge-PLACES.true

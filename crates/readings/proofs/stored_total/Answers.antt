@@ -1,40 +1,31 @@
-use Prim.Native.Nat.{ℕ}
-use mathlib.Core.Path.{◌≡◌, refl, sym, ap, subst, ◌∙◌}
-use mathlib.Core.Bool.{not, ◌&&◌}
-use native.Mathlib.Numerals.{add-one}
-use native.Mathlib.Omega.{arith}
-use Rattle.plan.specs.declared.Found.TheVariants.{Nothing}
+use Rattle.std.proofs.Common.{rules, ℕ, Bool, not, Some, None, ◌≡◌, sym, ◌∙◌}
 use Rattle.plan.specs.Search.{first, first_no}
-use Rattle.plan.proofs.Searching.{turn_yes, stops}
-use Rattle.drafts.specs.Drafts.{places, is_free, is_of, piece_at}
-use Rattle.drafts.proofs.Stored.{stored_at, stored_none}
+use Rattle.plan.proofs.Searching.{at_iff}
+use Rattle.drafts.specs.Drafts.{places}
+use Rattle.drafts.proofs.Stored.{test, stored_at, stored_none}
 use Rattle.readings.proofs.stored_total.Goals as goal
 
-pub loop-place-init : goal.loop-place-init
-unfolding first_no
-loop-place-init c = (omega arith, refl)
-
-pub is_of-requires : goal.is_of-requires
+pub first_no-requires : goal.first_no-requires
 unfolding places
-is_of-requires c = (c.requires, omega arith)
+first_no-requires c = λ i l r. search rules
 
 pub total_at-requires : goal.total_at-requires
 unfolding places
-total_at-requires c = (c.requires, omega arith)
+total_at-requires c =
+    let a = c.args in let other : ℕ → Bool = λ q. not (test a.words.now a.task a.job q) in
+    let e : first_no 2048 other ≡ Some c.in-Some.place = sym (c.first_no.ensures other (λ i b l r h. search rules)) ∙ c.in-Some.is in
+    (c.requires, ((at_iff other 2048 c.in-Some.place).0 e).below)
 
-pub returns-then-is_of : goal.returns-then-is_of
+pub returns-in-Some : goal.returns-in-Some
 unfolding places first
-returns-then-is_of c = let a = c.args in let l = c.loop-place in let w = a.words.now in c.total_at.ensures ∙ sym (stored_at w a.task a.job l.place (stops (λ q. not (not (is_free w q) && is_of a.task a.job (piece_at w q))) 2048 l.place l.invariant.1 (omega arith) (ap not (sym c.is_of.ensures ∙ c.if-is_of.true))))
+returns-in-Some c =
+    let a = c.args in let other : ℕ → Bool = λ q. not (test a.words.now a.task a.job q) in
+    let e : first_no 2048 other ≡ Some c.in-Some.place = sym (c.first_no.ensures other (λ i b l r h. search rules)) ∙ c.in-Some.is in
+    c.total_at.ensures ∙ sym (stored_at a.words.now a.task a.job c.in-Some.place e)
 
-pub overflow_add-place : goal.overflow_add-place
-overflow_add-place c = omega arith
-
-pub loop-place-smaller : goal.loop-place-smaller
-loop-place-smaller c = omega arith
-
-pub loop-place-preserved : goal.loop-place-preserved
-loop-place-preserved c = let a = c.args in let l = c.loop-place in let w = a.words.now in (omega arith, rw add-one (turn_yes (λ q. not (not (is_free w q) && is_of a.task a.job (piece_at w q))) l.place l.invariant.1 (ap not (sym c.is_of.ensures ∙ c.if-is_of.false))))
-
-pub returns : goal.returns
+pub returns-in-None : goal.returns-in-None
 unfolding places first
-returns c = let a = c.args in let l = c.loop-place in let w = a.words.now in let e : l.place ≡ 2048 = omega (arith, l.invariant.0, c.loop-place-test.false) in sym (stored_none w a.task a.job (subst (λ (n : ℕ). first_no n (λ q. not (not (is_free w q) && is_of a.task a.job (piece_at w q))) ≡ Nothing) e l.invariant.1))
+returns-in-None c =
+    let a = c.args in let other : ℕ → Bool = λ q. not (test a.words.now a.task a.job q) in
+    let e : first_no 2048 other ≡ None = sym (c.first_no.ensures other (λ i b l r h. search rules)) ∙ c.in-None.is in
+    sym (stored_none a.words.now a.task a.job e)

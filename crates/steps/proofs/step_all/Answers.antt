@@ -3,7 +3,7 @@
 use mathlib.Core.Path.{◌≡◌, refl, sym, ◌∙◌, ap}
 use mathlib.Core.Bool.{not}
 use mathlib.Core.List.{List}
-use Prim.Native.Nat.{ℕ, ◌+◌, ◌<◌, ◌≤◌}
+use Prim.Native.Nat.{ℕ, ◌+◌, ◌<◌}
 use native.Mathlib.Omega.{arith}
 use lib.Dec.{T, eqb, eqb→eq}
 use lib.ListN.{length, get_or, set}
@@ -11,7 +11,7 @@ use Rattle.std.proofs.Math.Dec.{not_T}
 use Rattle.plan.specs.Dispatch.{step, start_state}
 use Rattle.plan.specs.declared.LaneState.{LaneState}
 use Rattle.plan.specs.declared.Stepped.{Stepped}
-use Rattle.steps.proofs.Records.{none, refused_at, fits_at, all_fit, number_at, moved_to, moved_length, moved_set, moved_all}
+use Rattle.steps.proofs.Records.{none, refused_at, fits_at, all_fit, number_at, moved_to, moved_set, moved_all}
 use Rattle.steps.proofs.step_all.Goals as goal
 
 is_refused : (n : ℕ) → (n ≡ 0 → ⊥) → T (not (eqb n 0))
@@ -25,36 +25,33 @@ unfolding start_state
 returns-then-stepped-ne0 c =
     let ws = c.args.words.now in
     let ys = c.args.lanes.now in
-    let e : c.step-stepped.result.number ≡ number_at ws ys c.loop-i.i = ap (λ (k : Stepped). k.number) c.step-stepped.ensures in
-    let r = refused_at ws ys c.loop-i.i c.loop-i.invariant c.loop-i-test.true (is_refused (number_at ws ys c.loop-i.i) (λ z. c.if-stepped-ne0.true (e ∙ z))) in
+    let e : c.step-stepped.result.number ≡ number_at ws ys c.loop-lane.lane-index = ap (λ (k : Stepped). k.number) c.step-stepped.ensures in
+    let r = refused_at ws ys c.loop-lane.lane-index c.loop-lane.invariant c.loop-lane-test.true (is_refused (number_at ws ys c.loop-lane.lane-index) (λ z. c.if-stepped-ne0.true (e ∙ z))) in
     (e ∙ sym r.0, r.1)
 
-pub loop-i-preserved : goal.loop-i-preserved
+pub loop-lane-preserved : goal.loop-lane-preserved
 unfolding start_state
-loop-i-preserved c =
+loop-lane-preserved c =
     let ws = c.args.words.now in
     let ys = c.args.lanes.now in
-    let e : c.step-stepped.result.number ≡ number_at ws ys c.loop-i.i = ap (λ (k : Stepped). k.number) c.step-stepped.ensures in
-    fits_at ws ys c.loop-i.i c.loop-i.invariant c.loop-i-test.true (is_taken (number_at ws ys c.loop-i.i) (sym e ∙ c.if-stepped-ne0.false))
+    let e : c.step-stepped.result.number ≡ number_at ws ys c.loop-lane.lane-index = ap (λ (k : Stepped). k.number) c.step-stepped.ensures in
+    fits_at ws ys c.loop-lane.lane-index c.loop-lane.invariant c.loop-lane-test.true (is_taken (number_at ws ys c.loop-lane.lane-index) (sym e ∙ c.if-stepped-ne0.false))
 
-pub loop-i-2-init : goal.loop-i-2-init
-loop-i-2-init c = (refl, (all_fit c.args.words.now c.args.lanes.now c.loop-i.i c.loop-i.invariant c.loop-i-test.false, omega arith))
+pub loop-lane-2-init : goal.loop-lane-2-init
+loop-lane-2-init c = (refl, all_fit c.args.words.now c.args.lanes.now c.loop-lane.lane-index c.loop-lane.invariant c.loop-lane-test.false)
 
 -- the record at i of the list whose first i records are moved is moved, and stored back
 moved_on : (ws : List ℕ) (ys zs : List LaneState) (i : ℕ) (r : Stepped) → zs ≡ moved_to ws i ys → r ≡ step ws (get_or zs i none) → i < length ys
     → set zs i r.state ≡ moved_to ws (i + 1) ys
 moved_on ws ys zs i r z e l = rw (e, z) (moved_set ws i ys l)
 
-pub loop-i-2-preserved : goal.loop-i-2-preserved
+pub loop-lane-2-preserved : goal.loop-lane-2-preserved
 unfolding start_state
-loop-i-2-preserved c =
-    let l2 = c.loop-i-2 in
-    let below : l2.i < length c.args.lanes.now = omega arith in
-    let m = moved_on c.args.words.now c.args.lanes.now l2.lanes l2.i c.step-stepped-in-loop-i-2.result l2.invariant.0 c.step-stepped-in-loop-i-2.ensures below in
-    (m, (l2.invariant.1.0, rw m (rw (moved_length c.args.words.now (l2.i + 1) c.args.lanes.now) (omega arith))))
+loop-lane-2-preserved c =
+    let l2 = c.loop-lane-2 in
+    (moved_on c.args.words.now c.args.lanes.now l2.lanes l2.lane-index c.step-stepped-in-loop-lane-2.result l2.invariant.0 c.step-stepped-in-loop-lane-2.ensures (omega arith), l2.invariant.1)
 
 pub returns : goal.returns
 returns c =
-    let l2 = c.loop-i-2 in
-    let all : length c.args.lanes.now ≤ l2.i = omega arith in
-    (sym l2.invariant.1.0, l2.invariant.0 ∙ moved_all c.args.words.now l2.i c.args.lanes.now l2.invariant.1.0 all)
+    let l2 = c.loop-lane-2 in
+    (sym l2.invariant.1, l2.invariant.0 ∙ moved_all c.args.words.now l2.lane-index c.args.lanes.now l2.invariant.1 (omega arith))

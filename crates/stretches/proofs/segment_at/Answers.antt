@@ -5,7 +5,7 @@ use Rattle.stretches.proofs.segment_at.Goals as goal
 
 pub returns-then-tick-stretch : goal.returns-then-tick-stretch
 unfolding segment_of
-returns-then-tick-stretch c = rw (lt-ltb _ _ c.if-tick-stretch.true, c.lesser.ensures) refl
+returns-then-tick-stretch c = rw (lt-ltb _ _ c.if-tick-stretch.true, c.min.ensures) refl
 
 pub returns-else-tick-stretch : goal.returns-else-tick-stretch
 unfolding segment_of

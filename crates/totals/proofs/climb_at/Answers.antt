@@ -25,6 +25,16 @@ pub overflow_add-result : goal.overflow_add-result
 unfolding places
 overflow_add-result c = let a = c.args in let p = c.requires in omega (arith, p.last_lt_places.1, p.headed.1, count_most a.words.now a.gathered.now p.headed.0.1 a.rank p.headed.1 a.climb)
 
+pub returns-then-not-rises : goal.returns-then-not-rises
+unfolding places
+returns-then-not-rises c =
+    let a = c.args in let p = c.requires in
+    let h = climb_some a.words.now a.gathered.now p.headed.0.1 a.rank p.headed.1 a.climb c.if-count-eq0.false c.key_at-before.result c.key_at-now.result c.key_at-before.ensures c.key_at-now.ensures in
+    rw c.if-not-rises.true at h
+
 pub returns : goal.returns
 unfolding places
-returns c = let a = c.args in let p = c.requires in climb_some a.words.now a.gathered.now p.headed.0.1 a.rank p.headed.1 a.climb c.if-count-eq0.false c.key_at-before.result c.key_at-now.result c.key_at-before.ensures c.key_at-now.ensures
+returns c =
+    let a = c.args in let p = c.requires in
+    let h = climb_some a.words.now a.gathered.now p.headed.0.1 a.rank p.headed.1 a.climb c.if-count-eq0.false c.key_at-before.result c.key_at-now.result c.key_at-before.ensures c.key_at-now.ensures in
+    rw c.if-not-rises.false at h

@@ -18,9 +18,6 @@ returns-then-rank-ge-PLACES c = rw (sym c.is_free.ensures ∙ c.if-is_free.false
 pub piece_at-last-requires : goal.piece_at-last-requires
 piece_at-last-requires c = let a = c.args in let p = c.requires in (p.headed.0.room, subst (λ (n : ℕ). n < places) (sym (p.gathered.lasts.each c.rank_at-rank.result (omega arith))) (last_small a.words.now c.rank_at-rank.result))
 
-pub bounds-gathered-at-2 : goal.bounds-gathered-at-2
-bounds-gathered-at-2 c = omega (arith, c.requires.gathered.room)
-
 pub returns : goal.returns
 returns c =
     let a = c.args in let p = c.requires in let r = c.rank_at-rank in

@@ -13,9 +13,6 @@ use Rattle.turns.proofs.start_all.Goals as goal
 pub loop-i-init : goal.loop-i-init
 loop-i-init c = (refl, wrote_none (starts c.args.cycle) (table_after (words_of c.args.words.now)) c.args.states.now c.args.first)
 
-pub overflow_add-end : goal.overflow_add-end
-overflow_add-end c = let l = c.loop-i in let a = c.args in let z = l.invariant.1.size in omega (arith, c.requires, l.invariant.0)
-
 pub slice_bounds-put_state-count : goal.slice_bounds-put_state-count
 slice_bounds-put_state-count c = omega arith
 
@@ -34,9 +31,6 @@ put_state-requires c = let l = c.loop-i in let a = c.args in let z = l.invariant
 pub table_after-at-requires : goal.table_after-at-requires
 table_after-at-requires c = tt
 
-pub loop-i-smaller : goal.loop-i-smaller
-loop-i-smaller c = let l = c.loop-i in let a = c.args in let z = l.invariant.1.size in omega arith
-
 pub loop-i-preserved : goal.loop-i-preserved
 loop-i-preserved c = let l = c.loop-i in let a = c.args in let z = l.invariant.1.size in let h : l.i + 28 ≤ length a.states.now = omega (arith, c.requires, l.invariant.0) in let e = c.put_state.ensures ∙ ap state_bytes c.start.ensures in (omega (arith, l.invariant.0), rw c.table_after-at.ensures (wrote_part (starts a.cycle) (table_after (words_of a.words.now)) a.states.now a.first l.i l.at l.states l.invariant.1 (l.i + 28 - l.i) c.put_state.new.bytes (omega arith) h (ap length e ∙ state_length (start_state a.cycle l.at)) e))
 
@@ -45,3 +39,7 @@ shape_of-states c = c.loop-i.invariant.1.size
 
 pub returns : goal.returns
 returns c = let l = c.loop-i in let a = c.args in wrote_all (starts a.cycle) (table_after (words_of a.words.now)) a.states.now a.first l.i l.at l.states l.invariant.1 (let z = l.invariant.1.size in omega arith) ∙ started_all (words_of a.words.now) a.cycle a.first a.states.now c.requires
+
+-- the last record ends the loop
+pub returns-2 : goal.returns-2
+returns-2 c = let l = c.loop-i in let a = c.args in let z = l.invariant.1.size in let w = words_of a.words.now in let h : l.i + 28 ≤ length a.states.now = omega (arith, c.requires, l.invariant.0) in let e = c.put_state.ensures ∙ ap state_bytes c.start.ensures in let m = wrote_part (starts a.cycle) (table_after w) a.states.now a.first l.i l.at l.states l.invariant.1 (l.i + 28 - l.i) c.put_state.new.bytes (omega arith) h (ap length e ∙ state_length (start_state a.cycle l.at)) e in wrote_all (starts a.cycle) (table_after w) a.states.now a.first (l.i + 28) _ _ m (omega arith) ∙ started_all w a.cycle a.first a.states.now c.requires

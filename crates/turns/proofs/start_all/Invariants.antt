@@ -1,6 +1,5 @@
-use Prim.Native.Nat.{◌-◌, ◌%◌}
+use Prim.Native.Nat.{◌%◌}
 use mathlib.Core.Path.{◌≡◌}
-use lib.ListN.{length}
 use Rattle.plan.specs.Boundary.{words_of}
 use Rattle.modes.specs.Modes.{table_after}
 use Rattle.records.proofs.Rows.{Wrote}
@@ -9,6 +8,3 @@ use Rattle.turns.proofs.start_all.Given as goal
 
 abbrev pub invariant-loop-i : goal.invariant-loop-i
 invariant-loop-i l = (l.i % 28 ≡ 0) × Wrote (starts l.cycle) (table_after (words_of l.words)) l.initial.states l.first l.i l.at l.states
-
-abbrev pub decreases-loop-i : goal.decreases-loop-i
-decreases-loop-i l = length l.initial.states - l.i

@@ -1,23 +1,24 @@
-use mathlib.Core.Path.{sym, ap, ◌∙◌}
-use native.Mathlib.Omega.{arith}
-use Rattle.plan.specs.declared.Answer.{Answer}
-use Rattle.plan.specs.Questions.{question_at, each, piece_questions}
-use Rattle.plan.proofs.Asking.{refused_at}
+use Rattle.std.proofs.Common.{refl}
+use mathlib.Core.Path.{ap, ◌∙◌}
+use Rattle.plan.specs.declared.Table.TheVariants.{Tasks}
+use Rattle.plan.specs.Questions.{piece_questions}
+use Rattle.asking.specs.Asking.{told}
+use Rattle.asking.proofs.Verdicts.{AskedTo, all_told, where_ok}
 use Rattle.jobs.proofs.Gathering.{timed}
-use Rattle.windows.proofs.Asked.{asked_some, all_pass, on_budget}
+use Rattle.windows.proofs.Asked.{budget}
 use Rattle.windows.proofs.ask_budgets.Goals as goal
 
-pub question_at-requires : goal.question_at-requires
-question_at-requires c = omega arith
+pub returns-clause-told : goal.returns-clause-told
+unfolding piece_questions
+returns-clause-told c =
+    let s = c.args.image.now in
+    let budget_told : AskedTo (piece_questions s) 7 c.tell.result =
+    budget s _ c.requires.1.0 (c.tell.ensures ∙ ap (told (record { number = 13; table = Tasks })) c.first_off_budget.ensures) in
+    all_told (piece_questions s) 7 _ refl budget_told
 
-pub refusal-requires : goal.refusal-requires
-refusal-requires c = tt
-
--- src/lib.rt:143:1
-pub returns-in-At : goal.returns-in-At
-unfolding piece_questions question_at each
-returns-in-At c = let s = c.args.image.now in let p = c.requires in let k = c.question_at.ensures in (c.refusal.ensures ∙ refused_at piece_questions s 6 _ _ k p.1.0 (omega arith) (sym c.first_off_budget.ensures ∙ c.in-At.is), λ z. absurd (asked_some s 6 _ (omega arith) k (sym (ap (λ (x : Answer). x.number) c.refusal.ensures) ∙ z)))
-
--- src/lib.rt:143:1
-pub returns-in-Nothing : goal.returns-in-Nothing
-returns-in-Nothing c = let s = c.args.image.now in let p = c.requires in let e = sym c.first_off_budget.ensures ∙ c.in-Nothing.is in (c.accepted.ensures ∙ on_budget s p.1.0 e, λ _. timed s _ p.0 (all_pass s p.1.0 e) c.gather.ensures)
+pub returns-clause-timed : goal.returns-clause-timed
+returns-clause-timed c =
+    let s = c.args.image.now in
+    let budget_told : AskedTo (piece_questions s) 7 c.tell.result =
+    budget s _ c.requires.1.0 (c.tell.ensures ∙ ap (told (record { number = 13; table = Tasks })) c.first_off_budget.ensures) in
+    where_ok _ c.tell.result (λ z. timed s _ c.requires.0 (budget_told.passed z) c.gather.ensures)

@@ -7,17 +7,8 @@ use Rattle.wording.proofs.Texts.{from_zero, one_line_fewer, same_lines, none_lef
 use Rattle.wording.proofs.line_start.Goals as goal
 use Rattle.wording.proofs.line_start.Goals.{then-text-at-eq10, else-text-at-eq10}
 
-pub loop-at-init : goal.loop-at-init
-loop-at-init c = (omega arith, refl)
-
 pub returns-then-left-eq0 : goal.returns-then-left-eq0
-returns-then-left-eq0 c = let l = c.loop-at in let text = c.args.text.now in (l.invariant.0, sym (from_zero (drop l.at text)) ∙ ap (λ (k : ℕ). lines_from k (drop l.at text)) (sym c.if-left-eq0.true) ∙ l.invariant.1)
-
-pub overflow_sub-left : goal.overflow_sub-left
-overflow_sub-left c = omega arith
-
-pub loop-at-smaller : goal.loop-at-smaller
-loop-at-smaller c = omega arith
+returns-then-left-eq0 c = let l = c.loop-at in let text = c.args.text.now in (omega arith, sym (from_zero (drop l.at text)) ∙ ap (λ (k : ℕ). lines_from k (drop l.at text)) (sym c.if-left-eq0.true) ∙ l.invariant)
 
 pub loop-at-preserved : goal.loop-at-preserved
 loop-at-preserved c =
@@ -26,9 +17,11 @@ loop-at-preserved c =
     let e : l.at + 1 ≡ suc l.at = omega arith in
     let same : (m : ℕ) → c.if-text-at-eq10.left ≡ m → lines_from c.if-text-at-eq10.left (drop (l.at + 1) text) ≡ lines_from m (drop (suc l.at) text) = λ m q. rw (q, e) refl in
     elim c.if-text-at-eq10.branch [
-      | then-text-at-eq10 w ↦ (omega arith, same _ w.left-is ∙ one_line_fewer text l.at k l.left some w.if-text-at-eq10.true ∙ l.invariant.1)
-      | else-text-at-eq10 w ↦ (omega arith, same _ w.left-is ∙ same_lines text l.at k l.left some w.if-text-at-eq10.false ∙ l.invariant.1)
+      | then-text-at-eq10 w ↦ same _ w.left-is ∙ one_line_fewer text l.at k l.left some w.if-text-at-eq10.true ∙ l.invariant
+      | else-text-at-eq10 w ↦ same _ w.left-is ∙ same_lines text l.at k l.left some w.if-text-at-eq10.false ∙ l.invariant
     ]
 
 pub returns : goal.returns
-returns c = let l = c.loop-at in let text = c.args.text.now in let e : l.at ≡ length text = omega (arith, l.invariant.0) in (l.invariant.0, sym (none_left text l.at e l.left) ∙ l.invariant.1)
+returns c =
+    let l = c.loop-at in let text = c.args.text.now in let e : length text ≡ l.at = omega arith in
+    (omega arith, sym (none_left text (length text) refl l.left) ∙ ap (λ (k : ℕ). lines_from l.left (drop k text)) e ∙ l.invariant)

@@ -1,20 +1,12 @@
 use Prim.Native.Nat.{ℕ}
-use mathlib.Core.Path.{sym}
 use native.Mathlib.Omega.{arith}
-use lib.ListN.{length-take, length-replicate}
-use lib.Seq.{length-take-le}
+use lib.ListN.{length-replicate}
 use Rattle.lines.proofs.Storing.{put_front, put_within}
 use Rattle.wording.proofs.Worded.{too_few, enough}
 use Rattle.wording.proofs.write_line.Goals as goal
 
 pub returns-then-line-length : goal.returns-then-line-length
 returns-then-line-length c = let a = c.args in too_few (record { number = a.number; table = a.table; row = a.row }) a.line.now (omega (arith, c.if-line-length.true, c.put_line-length.ensures.reached))
-
-pub slice_bounds-put_text-end : goal.slice_bounds-put_text-end
-slice_bounds-put_text-end c = let r = c.put_line-length in sym (length-take-le r.result r.new.out (omega (arith, r.ensures.few, r.auto.out, length-replicate {A = ℕ} 95 0)))
-
-pub put_text-requires : goal.put_text-requires
-put_text-requires c = let r = c.put_line-length in (omega arith, omega (arith, length-take r.result r.new.out, r.ensures.few))
 
 pub returns : goal.returns
 returns c =

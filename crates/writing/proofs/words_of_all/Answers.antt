@@ -7,37 +7,16 @@ use Rattle.writing.specs.AllTables.{all_tables}
 use Rattle.writing.proofs.AllTables.{below_next, below_small, count_small, lanes_small}
 use Rattle.writing.proofs.words_of_all.Goals as goal
 
-pub lane_count-lanes-requires : goal.lane_count-lanes-requires
-lane_count-lanes-requires c = c.requires.passed
-
 pub loop-lane-init : goal.loop-lane-init
 unfolding tables_below
-loop-lane-init c = (omega arith, refl)
-
-pub count_entries-requires : goal.count_entries-requires
-count_entries-requires c = (c.requires, omega (arith, c.lane_count-lanes.ensures))
-
-pub overflow_cast-words : goal.overflow_cast-words
-overflow_cast-words c = let s = c.args.image.now in let p = c.requires.passed in let l = c.loop-lane in let t : l.lane < lanes s = omega (arith, c.lane_count-lanes.ensures) in let n = c.count_entries.ensures in omega (arith, n, count_small s p l.lane)
-
-pub overflow_mul-words : goal.overflow_mul-words
-overflow_mul-words c = let s = c.args.image.now in let p = c.requires.passed in let l = c.loop-lane in let t : l.lane < lanes s = omega (arith, c.lane_count-lanes.ensures) in let n = c.count_entries.ensures in omega (arith, n, count_small s p l.lane)
-
-pub overflow_add-words : goal.overflow_add-words
-overflow_add-words c = let s = c.args.image.now in let p = c.requires.passed in let l = c.loop-lane in let t : l.lane < lanes s = omega (arith, c.lane_count-lanes.ensures) in let n = c.count_entries.ensures in omega (arith, n, count_small s p l.lane)
+loop-lane-init c = (refl)
 
 pub overflow_add-words-in-loop-lane : goal.overflow_add-words-in-loop-lane
-overflow_add-words-in-loop-lane c = let s = c.args.image.now in let p = c.requires.passed in let l = c.loop-lane in let t : l.lane < lanes s = omega (arith, c.lane_count-lanes.ensures) in let n = c.count_entries.ensures in omega (arith, n, count_small s p l.lane, l.invariant.1, below_small s p l.lane, lanes_small s p)
-
-pub overflow_add-lane : goal.overflow_add-lane
-overflow_add-lane c = let s = c.args.image.now in let p = c.requires.passed in let l = c.loop-lane in let t : l.lane < lanes s = omega (arith, c.lane_count-lanes.ensures) in let n = c.count_entries.ensures in omega (arith, lanes_small s p)
-
-pub loop-lane-smaller : goal.loop-lane-smaller
-loop-lane-smaller c = omega arith
+overflow_add-words-in-loop-lane c = let s = c.args.image.now in let p = c.requires.passed in let l = c.loop-lane in let t : l.lane < lanes s = omega (arith, c.lane_count-lanes.ensures) in let n = c.count_entries.ensures in omega (arith, n, count_small s p l.lane, l.invariant, below_small s p l.lane, lanes_small s p)
 
 pub loop-lane-preserved : goal.loop-lane-preserved
-loop-lane-preserved c = let s = c.args.image.now in let p = c.requires.passed in let l = c.loop-lane in let t : l.lane < lanes s = omega (arith, c.lane_count-lanes.ensures) in let n = c.count_entries.ensures in let e : l.lane + 1 ≡ suc l.lane = omega arith in (omega arith, rw e (omega (arith, n, l.invariant.1, below_next s l.lane)))
+loop-lane-preserved c = let s = c.args.image.now in let p = c.requires.passed in let l = c.loop-lane in let t : l.lane < lanes s = omega (arith, c.lane_count-lanes.ensures) in let n = c.count_entries.ensures in let e : l.lane + 1 ≡ suc l.lane = omega arith in (rw e (omega (arith, n, l.invariant, below_next s l.lane)))
 
 pub returns : goal.returns
 unfolding all_tables
-returns c = let s = c.args.image.now in let l = c.loop-lane in let e : l.lane ≡ lanes s = omega (arith, c.lane_count-lanes.ensures, l.invariant.0) in l.invariant.1 ∙ ap (λ (n : ℕ). length (tables_below s n)) e
+returns c = let s = c.args.image.now in let l = c.loop-lane in let e : l.lane ≡ lanes s = omega (arith, c.lane_count-lanes.ensures) in l.invariant ∙ ap (λ (n : ℕ). length (tables_below s n)) e
