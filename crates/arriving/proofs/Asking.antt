@@ -1,16 +1,12 @@
 -- What asking for a frame's arrivals tells: refused by the check, or by 5.
-use Rattle.std.proofs.Common.{◌≡◌, List, ℕ, ◌≤◌, length, Result, Ok, Err}
-use mathlib.Core.Logic.{◌≢◌}
-use mathlib.Core.Path.{refl, sym, ap, subst, ◌∙◌}
+use Rattle.std.proofs.Common.{◌≡◌, List, ℕ, ◌≤◌, Result, Err}
+use mathlib.Core.Path.{sym, ap, subst, ◌∙◌}
 use native.Mathlib.Omega.{arith}
 use Rattle.plan.specs.declared.Answer.{Answer}
 use Rattle.plan.specs.declared.Table.TheVariants.{Frames}
 use Rattle.plan.specs.Image.{rows}
 use Rattle.plan.specs.Questions.{questions, answer_of, accepted}
-use Rattle.plan.proofs.Asking.{passed_of}
-use Rattle.plan.proofs.Numbers.{real}
 use Rattle.asking.specs.Asking.{verdict}
-use Rattle.asking.proofs.Verdicts.{all_passed}
 use Rattle.questions.proofs.Verdict.{ask_refuses, ask_numbers}
 use Rattle.arrivals.specs.declared.Arrival.{Arrival}
 use Rattle.arrivals.proofs.Answers.{by_check, no_frame, answer_is}

@@ -274,6 +274,3 @@ joined_wrote a b s lent h p e d {m1} {m2} {m3} {after} w u v k l =
     let f : image_of (joined_rows a b s) h p ≡ image_of (joined_rows a b s) (cycle_ticks a) (precision a) =
     ap (λ (x : ℕ). image_of (joined_rows a b s) x p) e ∙ ap (image_of (joined_rows a b s) (cycle_ticks a)) d in
     subst (λ (im : List ℕ). length im ≤ length lent → after ≡ im ++ drop (length im) lent) f (λ y. image_wrote (joined_rows a b s) h p lent w u v k y) l
-
-pub joined_some : (a b : List ℕ) (s : ℕ) → 1 ≤ length (joined_image a b s)
-joined_some a b s = omega (arith, joined_room a b s)

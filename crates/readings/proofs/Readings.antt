@@ -98,9 +98,6 @@ module _ (w : List ℕ) where
     unfolding holds_piece places
     holds_far l = rw (le-ltb p 2048 l) (sym (no_and (is_draft w)))
 
-    pub holds_none : is_draft w ≡ false → false ≡ is_draft w && holds_piece w p
-    holds_none e = rw e refl
-
     pub holds_here : is_draft w ≡ true → p < 2048 → not (is_free w p) ≡ is_draft w && holds_piece w p
     unfolding holds_piece places
     holds_here d l = rw (d, lt-ltb p 2048 l) refl

@@ -1,7 +1,7 @@
 // Steps of lanes' records of 28 bytes, over words in bytes (paper 01, "What the product covers").
 #![tactic(auto)]
 
-ghost use Rattle.std.specs.Prelude.{◌≡◌, true, ◌≤◌, length, get_or, take, drop};
+ghost use Rattle.std.specs.Prelude.{◌≡◌, true, ◌≤◌, length, get_or};
 ghost use Rattle.plan.specs.Dispatch.{step};
 ghost use Rattle.plan.specs.Boundary.{words_of, step_number, step_bytes, step_all_number, step_all_bytes};
 ghost use Rattle.moves.specs.Lookups.{lookup};

@@ -4,15 +4,12 @@ use Rattle.buffers.specs.Holds.{waits}
 use Rattle.buffers.proofs.Rising.{same_jobs}
 use Rattle.buffers.proofs.job_waits.Goals as goal
 
--- src/lib.rt:42:5
 pub last_end-requires : goal.last_end-requires
 last_end-requires c = let p = c.requires in rw c.buffer_at-b.ensures (p.sound.1, ((p.sound.0.names Buffers c.args.row p.row_bound.0).0, p.row_bound.1.1))
 
--- src/lib.rt:42:46
 pub first_start-requires : goal.first_start-requires
 first_start-requires c = let p = c.requires in rw c.buffer_at-b.ensures (p.sound.1, ((p.sound.0.names Buffers c.args.row p.row_bound.0).1, (rw (same_jobs c.args.image.now p.row_bound.1.0 c.args.row p.row_bound.0) p.row_bound.1.1)))
 
--- src/lib.rt:36:1
 pub returns : goal.returns
 unfolding waits
 returns c = rw (c.last_end.ensures, c.first_start.ensures, c.buffer_at-b.ensures) refl

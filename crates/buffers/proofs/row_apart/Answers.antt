@@ -4,12 +4,10 @@ use Rattle.buffers.specs.Holds.{holds_apart}
 use Rattle.plan.specs.Search.{apart}
 use Rattle.buffers.proofs.row_apart.Goals as goal
 
--- src/lib.rt:140:1
 pub returns-then-same_buffer : goal.returns-then-same_buffer
 unfolding hold_apart holds_apart apart
 returns-then-same_buffer c = rw (sym c.same_buffer.ensures ∙ c.if-same_buffer.true) c.holds_apart.ensures
 
--- src/lib.rt:140:1
 pub returns-else-same_buffer : goal.returns-else-same_buffer
 unfolding hold_apart holds_apart apart
 returns-else-same_buffer c = rw (sym c.same_buffer.ensures ∙ c.if-same_buffer.false) refl

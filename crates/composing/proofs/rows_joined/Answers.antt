@@ -6,7 +6,6 @@ use Rattle.picking.proofs.Picks.{picked_long}
 use Rattle.composing.proofs.Writing.{flat_long}
 use Rattle.composing.proofs.rows_joined.Goals as goal
 
--- src/lib.rt:29:1
 pub returns : goal.returns
 returns c = let a = c.args in let q = c.pick.ensures in (
   sym (ap length (sym q.are) ∙ picked_long a.first.now a.second.now a.shared a.table _ c.pick.result),

@@ -2,6 +2,5 @@ use Rattle.lanes.proofs.Walking.{started}
 use mathlib.Core.Path.{refl}
 use Rattle.lanes.proofs.start.Goals as goal
 
--- src/lib.rt:347:1
 pub returns : goal.returns
 returns c = let a = c.args in (refl, started a.image.now a.lane _ refl c.idle_stretch-stretch.ensures c.first_cursors-cursors.ensures)

@@ -3,7 +3,6 @@ use Rattle.layout.specs.Tests.{length_fits}
 use Rattle.plan.specs.Image.{image}
 use Rattle.layout.proofs.length_fits.Goals as goal
 
--- src/lib.rt:47:1
 pub returns : goal.returns
 unfolding length_fits image
 returns c = refl

@@ -3,22 +3,18 @@ use native.Mathlib.Omega.{arith}
 use Rattle.plan.specs.Image.{image}
 use Rattle.layout.proofs.points_back.Goals as goal
 
--- src/lib.rt:58:17
 pub overflow_sub-image : goal.overflow_sub-image
 unfolding image
 overflow_sub-image c = omega arith
 
--- src/lib.rt:58:5
 pub word-requires : goal.word-requires
 unfolding image
 word-requires c = omega arith
 
--- src/lib.rt:58:46
 pub overflow_sub-result : goal.overflow_sub-result
 unfolding image
 overflow_sub-result c = omega arith
 
--- src/lib.rt:54:1
 pub returns : goal.returns
 unfolding image
 returns c = rw c.word.ensures refl

@@ -1,4 +1,4 @@
-use Rattle.std.proofs.Common.{rules, ◌≡◌, take}
+use Rattle.std.proofs.Common.{rules, take}
 use mathlib.Core.Path.{sym, ◌∙◌}
 use Rattle.plan.specs.Questions.{image_questions, row_questions, piece_questions}
 use Rattle.asking.proofs.Verdicts.{stopped_before, gone_past}

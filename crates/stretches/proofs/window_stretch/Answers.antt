@@ -7,27 +7,17 @@ use native.Mathlib.Omega.{arith}
 use mathlib.Core.Path.{refl, ap}
 use Rattle.stretches.proofs.window_stretch.Goals as goal
 
--- src/lib.rt:144:9
-
 pub window_at-w-requires : goal.window_at-w-requires
 window_at-w-requires c = let p = c.requires in record { in_image = (accepted_sound _ p.0).inside; row_bound = p.1.1 }
-
--- src/lib.rt:149:25
 
 pub charge_at-requires : goal.charge_at-requires
 charge_at-requires c = let p = c.requires in (p.1.0, (accepted_sound _ p.0, p.1.1))
 
--- src/lib.rt:149:15
-
 pub overflow_add-result : goal.overflow_add-result
 overflow_add-result c = let p = c.requires in let a = c.args in omega (arith, ap (λ (q : Window). q.start) c.window_at-w.ensures, c.charge_at.ensures, charged_small a.image.now p.0 a.window p.1.1)
 
--- src/lib.rt:150:22
-
 pub overflow_add-w : goal.overflow_add-w
 overflow_add-w c = let f = c.window_at-w.ensures in let p = c.requires in let a = c.args in omega (arith, ap (λ (q : Window). q.start) f, ap (λ (q : Window). q.length) f, window_small a.image.now p.0 a.window p.1.1)
-
--- src/lib.rt:140:1
 
 pub returns : goal.returns
 unfolding window_stretch window_end
